@@ -1,0 +1,14 @@
+pub mod Overlays
+pub mod Made
+pub mod Making
+pub mod Walking
+pub mod Conjoining
+pub mod Disjoint
+pub mod Descending
+pub mod Conditioning
+pub mod Changed
+pub mod Emptied
+pub mod Exact
+pub mod Promises
+pub mod Cases
+pub mod Shortcuts

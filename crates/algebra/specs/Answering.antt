@@ -1,0 +1,38 @@
+-- What an operation's result has to be, and when a room can hold one. Document 01, rows 0 and 6 of "When the kernel is told no", and
+-- "Every node that a call adds is reached from its answer". Assumes nothing.
+use mathlib.Core.Path.{_≡_}
+use mathlib.Core.Bool.{Bool}
+use Prim.Native.Nat.{ℕ, _≤_, _<_}
+use lib.ListN.{length}
+use Rattle.ids.specs.Id.{ref}
+use Rattle.diagram.specs.Table.{Table}
+use Rattle.diagram.specs.Sound.{Known, Sound, Continues}
+use Rattle.diagram.specs.Reading.{Reading, says}
+use Rattle.diagram.specs.Ordered.{Path, diagramOf}
+use Rattle.diagram.specs.Room.{width, edgeTotal, Fits}
+
+-- From the table t, a table and an id that answer with m, which says of each reading yes or no.
+pub record Answers (t : Table) (m : Reading → Bool) (out : Table × ℕ) : Type 0 where
+  pub sound : Sound (out .0)
+  pub continues : Continues t (out .0)
+  pub known : Known (out .0) (out .1)
+  pub means : (ρ : Reading) → says (out .0) ρ (out .1) ≡ m ρ
+  -- "the table with only the answer's missing nodes added": there is a path from the answer to each added node
+  pub reached : (r : ℕ) → length t < r → r ≤ length (out .0) → Path (diagramOf (out .0)) (ref (out .1)) r
+
+-- Some sound table that continues t, within a room for nodes, a room for edges and the 64 edges a node, holds the answer m: row 6
+-- is "given exactly when" there is none.
+pub record Answerable (nodes edges : ℕ) (t : Table) (m : Reading → Bool) : Type 0 where
+  pub table : Table
+  pub sound : Sound table
+  pub continues : Continues t table
+  pub fits : Fits nodes edges table
+  pub id : ℕ
+  pub known : Known table id
+  pub means : (ρ : Reading) → says table ρ id ≡ m ρ
+
+-- At least the nodes and the edges of another table, and for each of its nodes one at least as wide.
+pub record AtLeast (t s : Table) : Type 0 where
+  pub nodes : length t ≤ length s
+  pub edges : edgeTotal t ≤ edgeTotal s
+  pub widths : (r : ℕ) → 0 < r → r ≤ length t → (q : ℕ) × (0 < q) × (q ≤ length s) × (width t r ≤ width s q)

@@ -1,0 +1,9 @@
+pub mod Overlay
+pub mod Making
+pub mod Conditions
+pub mod Conjunction
+pub mod Disjointness
+pub mod Changing
+pub mod Answering
+pub mod Emptying
+pub mod Cases

@@ -1,0 +1,123 @@
+-- Counting: from a list without repetition, with a partner in another list for each element and no partner twice, no heavier list
+-- comes. Assumes nothing.
+use mathlib.Core.Path.{_≡_, refl, sym, _∙_, ap}
+use mathlib.Core.Bool.{Bool, true, false, cond}
+use mathlib.Core.List.{List, [], _∷_, List·Memᴰ, List·Memᴰ·head, List·Memᴰ·tail}
+use Prim.Native.Nat.{ℕ, zero, suc, _+_, _≤_, _<_}
+use native.Mathlib.Omega.{arith}
+use native.Mathlib.Decide.{ℕ-discrete}
+use lib.ListN.{length}
+use Rattle.diagram.specs.Ordered.{down, filter, sum}
+
+-- a list without one of its elements
+module _ {A : Type 0} where
+  unfoldable pub remove : {y : A} {l : List A} → List·Memᴰ y l → List A
+  remove (List·Memᴰ·head {xs = xs} e) = xs
+  remove (List·Memᴰ·tail {x = x} m) = x ∷ remove m
+
+  pub length-remove : {y : A} {l : List A} (m : List·Memᴰ y l) → length l ≡ suc (length (remove m))
+  unfolding remove
+  length-remove (List·Memᴰ·head e) = refl
+  length-remove (List·Memᴰ·tail m) = ap suc (length-remove m)
+
+  pub mem-remove : {y : A} {l : List A} (m : List·Memᴰ y l) (x : A) → (x ≡ y → ⊥) → List·Memᴰ x l → List·Memᴰ x (remove m)
+  unfolding remove
+  mem-remove (List·Memᴰ·head e) x n (List·Memᴰ·head q) = absurd (n (q ∙ sym e))
+  mem-remove (List·Memᴰ·head e) x n (List·Memᴰ·tail k) = k
+  mem-remove (List·Memᴰ·tail m) x n (List·Memᴰ·head q) = List·Memᴰ·head q
+  mem-remove (List·Memᴰ·tail m) x n (List·Memᴰ·tail k) = List·Memᴰ·tail (mem-remove m x n k)
+
+  pub remove-mem : {y : A} {l : List A} (m : List·Memᴰ y l) (x : A) → List·Memᴰ x (remove m) → List·Memᴰ x l
+  unfolding remove
+  remove-mem (List·Memᴰ·head e) x k = List·Memᴰ·tail k
+  remove-mem (List·Memᴰ·tail m) x (List·Memᴰ·head q) = List·Memᴰ·head q
+  remove-mem (List·Memᴰ·tail m) x (List·Memᴰ·tail k) = List·Memᴰ·tail (remove-mem m x k)
+
+sum-remove : (w : ℕ → ℕ) {y : ℕ} {l : List ℕ} (m : List·Memᴰ y l) → sum w l ≡ w y + sum w (remove m)
+unfolding remove
+sum-remove w (List·Memᴰ·head {xs = xs} e) = ap (λ (n : ℕ). w n + sum w xs) (sym e)
+sum-remove w (List·Memᴰ·tail m) = omega (arith, sum-remove w m)
+
+-- strictly falling from below b, so without repetition
+abbrev pub Falling : ℕ → List ℕ → Type 0
+Falling b [] = Unit {0}
+Falling b (x ∷ xs) = (x < b) × Falling x xs
+
+falling-up : (a b : ℕ) (xs : List ℕ) → a ≤ b → Falling a xs → Falling b xs
+falling-up a b [] h f = tt
+falling-up a b (x ∷ xs) h f = (omega arith, f .1)
+
+falling-mem : (b : ℕ) (xs : List ℕ) (x : ℕ) → Falling b xs → List·Memᴰ x xs → x < b
+falling-mem b (y ∷ ys) x f (List·Memᴰ·head e) = omega arith
+falling-mem b (y ∷ ys) x f (List·Memᴰ·tail m) = omega (arith, falling-mem y ys x (f .1) m)
+
+pub falling-filter : (f : ℕ → Bool) (b : ℕ) (xs : List ℕ) → Falling b xs → Falling b (filter f xs)
+falling-filter f b [] h = tt
+falling-filter f b (x ∷ xs) h = go (f x) (falling-filter f x xs (h .1))
+  where
+    go : (q : Bool) → Falling x (filter f xs) → Falling b (cond q (x ∷ filter f xs) (filter f xs))
+    go true i = (h .0, i)
+    go false i = falling-up x b (filter f xs) (omega arith) i
+
+pub falling-down : (n : ℕ) → Falling (suc n) (down n)
+falling-down zero = tt
+falling-down (suc n) = (omega arith, falling-down n)
+
+pub mem-down : (n x : ℕ) → 0 < x → x ≤ n → List·Memᴰ x (down n)
+mem-down zero x h l = absurd (omega arith)
+mem-down (suc n) x h l = go (ℕ-discrete x (suc n)) (λ k. mem-down n x h k)
+  where
+    go : Dec (x ≡ suc n) → (x ≤ n → List·Memᴰ x (down n)) → List·Memᴰ x (down (suc n))
+    go (yes e) i = List·Memᴰ·head e
+    go (no e) i = List·Memᴰ·tail (i (omega arith))
+
+pub down-mem : (n x : ℕ) → List·Memᴰ x (down n) → (0 < x) × (x ≤ n)
+down-mem (suc n) x (List·Memᴰ·head e) = (omega arith, omega arith)
+down-mem (suc n) x (List·Memᴰ·tail m) = let h = down-mem n x m in (h .0, omega arith)
+
+pub mem-filter : (f : ℕ → Bool) (xs : List ℕ) (x : ℕ) → List·Memᴰ x xs → f x ≡ true → List·Memᴰ x (filter f xs)
+mem-filter f (y ∷ ys) x (List·Memᴰ·head e) h = rw (← e, h) (List·Memᴰ·head refl)
+mem-filter f (y ∷ ys) x (List·Memᴰ·tail m) h = go (f y) (mem-filter f ys x m h)
+  where
+    go : (q : Bool) → List·Memᴰ x (filter f ys) → List·Memᴰ x (cond q (y ∷ filter f ys) (filter f ys))
+    go true i = List·Memᴰ·tail i
+    go false i = i
+
+pub filter-mem : (f : ℕ → Bool) (xs : List ℕ) (x : ℕ) → List·Memᴰ x (filter f xs) → List·Memᴰ x xs × (f x ≡ true)
+filter-mem f (y ∷ ys) x m = go (f y) refl (λ i. filter-mem f ys x i) m
+  where
+    go : (q : Bool) → f y ≡ q → (List·Memᴰ x (filter f ys) → List·Memᴰ x ys × (f x ≡ true)) → List·Memᴰ x (cond q (y ∷ filter f ys) (filter f ys)) → List·Memᴰ x (y ∷ ys) × (f x ≡ true)
+    go true e i (List·Memᴰ·head s) = (List·Memᴰ·head s, ap f s ∙ e)
+    go true e i (List·Memᴰ·tail m) = let r = i m in (List·Memᴰ·tail (r .0), r .1)
+    go false e i m = let r = i m in (List·Memᴰ·tail (r .0), r .1)
+filter-mem f [] x m = elim m [ ]
+
+-- a partner in l for r, no lighter
+pub record Partner (w w′ : ℕ → ℕ) (Q : ℕ → ℕ → Type 0) (l : List ℕ) (r : ℕ) : Type 0 where
+  pub to : ℕ
+  pub there : List·Memᴰ to l
+  pub pair : Q r to
+  pub lighter : w r ≤ w′ to
+
+pub weigh : (w w′ : ℕ → ℕ) (Q : ℕ → ℕ → Type 0) → ((r s y : ℕ) → Q r y → Q s y → r ≡ s) → (b : ℕ) (rs : List ℕ) → Falling b rs → (l : List ℕ)
+    → ((r : ℕ) → List·Memᴰ r rs → Partner w w′ Q l r) → sum w rs ≤ sum w′ l
+weigh w w′ Q inj b [] f l h = omega arith
+weigh w w′ Q inj b (x ∷ rs) f l h =
+    let p = h x (List·Memᴰ·head refl) in
+    omega (arith, sum-remove w′ (p .there), p .lighter, weigh w w′ Q inj x rs (f .1) (remove (p .there)) (λ r m. move p r m (h r (List·Memᴰ·tail m))))
+  where
+    move : (p : Partner w w′ Q l x) (r : ℕ) → List·Memᴰ r rs → Partner w w′ Q l r → Partner w w′ Q (remove (p .there)) r
+    move p r m q = record { to = q .to; there = mem-remove (p .there) (q .to) (λ (e : q .to ≡ p .to). apart e) (q .there); pair = q .pair; lighter = q .lighter }
+      where
+        apart : q .to ≡ p .to → ⊥
+        apart e =
+            let s : r ≡ x = inj r x (p .to) (rw e at (q .pair)) (p .pair) in
+            omega (arith, falling-mem x rs r (f .1) m)
+
+pub sum-one : (xs : List ℕ) → sum (λ x. 1) xs ≡ length xs
+sum-one [] = refl
+sum-one (x ∷ xs) = omega (arith, sum-one xs)
+
+pub sum-down : (n : ℕ) → sum (λ x. 1) (down n) ≡ n
+sum-down zero = refl
+sum-down (suc n) = omega (arith, sum-down n)

@@ -1,0 +1,12 @@
+pub mod Piecewise
+pub mod Lookup
+pub mod Facts
+pub mod Continuing
+pub mod Cofactors
+pub mod Apart
+pub mod Counting
+pub mod Runs
+pub mod Diagrams
+pub mod Fewest
+pub mod Readings
+pub mod Promises

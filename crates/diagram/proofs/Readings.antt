@@ -1,0 +1,76 @@
+-- Document 01's readings and the assignments of positions that stand for them. Assumes nothing.
+use mathlib.Core.Path.{_≡_, refl, sym, _∙_, ap, fun-ext}
+use mathlib.Core.Bool.{Bool, true, false, cond}
+use Prim.Native.Nat.{ℕ, zero, suc, _≤_, _<_}
+use native.Mathlib.Omega.{arith}
+use lib.Dec.{ltb, eqb}
+use lib.IntN.{ℤ, pos}
+use lib.Signed.{leZ-yes}
+use borrow.Author.Tests.{ltb-true, ltb-false, eqb-true, lt-ltb, le-ltb}
+use Rattle.ranges.specs.Line.{Place, position, placeAt, top}
+use Rattle.ranges.proofs.Positions.{position-top, place-placeAt, position-placeAt}
+use Rattle.diagram.specs.Table.{firstBoolean, isRange, topOf, Table, Assignment, value}
+use Rattle.diagram.specs.Cofactor.{upd}
+use Rattle.diagram.specs.Reading.{Reading, positions, says, atPlace, switched, Within}
+
+-- a reading gives positions within each variable's own
+pub positions-within : (ρ : Reading) → Within (positions ρ)
+positions-within ρ v = go (isRange v)
+  where
+    bool : (b : Bool) → cond b 0 1 ≤ 1
+    bool true = omega arith
+    bool false = omega arith
+
+    go : (b : Bool) → cond b (position (ρ .place v)) (cond (ρ .holds v) 0 1) ≤ cond b top 1
+    go true = position-top (ρ .place v) (ρ .within v)
+    go false = bool (ρ .holds v)
+
+-- and each such assignment comes from a reading
+pub reading : (α : Assignment) → Within α → Reading
+reading α w = record { place = λ v. cond (isRange v) (placeAt (α v)) (pos 0); holds = λ v. cond (isRange v) true (ltb (α v) 1); within = λ v. go v (isRange v) (w v) }
+  where
+    go : (v : ℕ) (b : Bool) → α v ≤ cond b top 1 → Place (cond b (placeAt (α v)) (pos 0))
+    go v true h = place-placeAt (α v) h
+    go v false h = (leZ-yes tt, leZ-yes tt)
+
+module _ (α : Assignment) (w : Within α) (v : ℕ) where
+  pub place-reading : (reading α w) .place v ≡ cond (isRange v) (placeAt (α v)) (pos 0)
+  unfolding reading
+  place-reading = refl
+
+  pub holds-reading : (reading α w) .holds v ≡ cond (isRange v) true (ltb (α v) 1)
+  unfolding reading
+  holds-reading = refl
+
+pub positions-reading : (α : Assignment) (w : Within α) → positions (reading α w) ≡ α
+unfolding reading
+positions-reading α w = fun-ext (λ v. go v (isRange v) (w v))
+  where
+    bool : (n : ℕ) → n ≤ 1 → cond (ltb n 1) 0 1 ≡ n
+    bool zero h = refl
+    bool (suc zero) h = refl
+    bool (suc (suc n)) h = absurd (omega arith)
+
+    go : (v : ℕ) (b : Bool) → α v ≤ cond b top 1 → cond b (position (cond b (placeAt (α v)) (pos 0))) (cond (cond b true (ltb (α v) 1)) 0 1) ≡ α v
+    go v true h = position-placeAt (α v) h
+    go v false h = bool (α v) h
+
+-- so what holds under every reading holds under every such assignment
+pub under-assignments : (P : Assignment → Type 0) → ((ρ : Reading) → P (positions ρ)) → (α : Assignment) → Within α → P α
+under-assignments P h α w = rw (positions-reading α w) at (h (reading α w))
+
+-- a changed reading is a changed assignment
+pub positions-atPlace : (ρ : Reading) (v : ℕ) (p : ℤ) (ok : Place p) → v < firstBoolean → positions (atPlace ρ v p ok) ≡ upd (positions ρ) v (position p)
+positions-atPlace ρ v p ok h = fun-ext (λ w. go w (eqb w v) refl)
+  where
+    go : (w : ℕ) (b : Bool) → eqb w v ≡ b
+        → cond (isRange w) (position (cond b p (ρ .place w))) (cond (ρ .holds w) 0 1) ≡ cond b (position p) (positions ρ w)
+    go w true e = let q : w < firstBoolean = omega (arith, eqb-true w v e) in rw (lt-ltb w firstBoolean q)
+    go w false e = refl
+
+pub positions-switched : (ρ : Reading) (v : ℕ) (b : Bool) → firstBoolean ≤ v → positions (switched ρ v b) ≡ upd (positions ρ) v (cond b 0 1)
+positions-switched ρ v b h = fun-ext (λ w. go w (eqb w v) refl)
+  where
+    go : (w : ℕ) (x : Bool) → eqb w v ≡ x → cond (isRange w) (position (ρ .place w)) (cond (cond x b (ρ .holds w)) 0 1) ≡ cond x (cond b 0 1) (positions ρ w)
+    go w true e = let q : firstBoolean ≤ w = omega (arith, eqb-true w v e) in rw (le-ltb w firstBoolean q)
+    go w false e = refl

@@ -1,0 +1,60 @@
+-- The nearest place inside bounds that are not empty: it is inside, and no place inside is nearer. Assumes nothing.
+use mathlib.Core.Path.{_≡_, refl, sym, _∙_, ap}
+use mathlib.Core.Bool.{Bool, true, false, cond, _&&_, false≢true}
+use Prim.Native.Nat.{ℕ, _+_, _-_, _≤_, _<_, min, max}
+use native.Mathlib.Omega.{arith}
+use lib.Dec.{leb, ltb}
+use lib.IntN.{ℤ}
+use lib.Signed.{ltZ}
+use borrow.Author.Tests.{ltb-true, ltb-false, leb-true, le-leb}
+use Rattle.ranges.specs.Line.{Place, position}
+use Rattle.ranges.specs.Bounding.{Keyed, inside, firstPlace, lastPlace, empty, nearest}
+use Rattle.ranges.specs.declared.bounds.Bound.{Bound}
+use Rattle.ranges.proofs.Positions.{position-ltZ, place-first, place-last, inside-positions, empty-positions}
+
+-- how far two places are apart
+abbrev pub distance : ℤ → ℤ → ℕ
+distance p q = (position p - position q) + (position q - position p)
+
+module _ (lower upper : Bound) (kl : Keyed lower) (ku : Keyed upper) where
+  abbrev lo : ℕ
+  lo = position (firstPlace lower)
+
+  abbrev hi : ℕ
+  hi = position (lastPlace upper)
+
+  pub first-last : empty lower upper ≡ false → position (firstPlace lower) ≤ position (lastPlace upper)
+  first-last e = ltb-false hi lo (sym (empty-positions lower upper kl ku) ∙ e)
+
+  pub place-nearest : (p : ℤ) → Place p → Place (nearest lower upper p)
+  place-nearest p h = go (ltZ p (firstPlace lower)) (ltZ (lastPlace upper) p)
+    where
+      go : (a b : Bool) → Place (cond a (firstPlace lower) (cond b (lastPlace upper) p))
+      go true b = place-first lower kl
+      go false true = place-last upper ku
+      go false false = h
+
+  pub position-nearest : empty lower upper ≡ false → (p : ℤ) → Place p → position (nearest lower upper p) ≡ max (position (firstPlace lower)) (min (position p) (position (lastPlace upper)))
+  position-nearest e p h = go (ltZ p (firstPlace lower)) (ltZ (lastPlace upper) p) (sym (position-ltZ p (firstPlace lower) h (place-first lower kl))) (sym (position-ltZ (lastPlace upper) p (place-last upper ku) h))
+    where
+      go : (a b : Bool) → ltb (position p) lo ≡ a → ltb hi (position p) ≡ b → position (cond a (firstPlace lower) (cond b (lastPlace upper) p)) ≡ max lo (min (position p) hi)
+      go true b x y = omega (arith, ltb-true (position p) lo x, first-last e)
+      go false true x y = omega (arith, ltb-true hi (position p) y, first-last e)
+      go false false x y = omega (arith, ltb-false (position p) lo x, ltb-false hi (position p) y)
+
+  -- it is inside
+  pub nearest-inside : empty lower upper ≡ false → (p : ℤ) → Place p → inside lower upper (nearest lower upper p) ≡ true
+  nearest-inside e p h =
+      let q = position-nearest e p h in
+      inside-positions lower upper kl ku (nearest lower upper p) (place-nearest p h)
+      ∙ rw (le-leb lo (position (nearest lower upper p)) (omega arith), le-leb (position (nearest lower upper p)) hi (omega (arith, first-last e)))
+
+  both : (a b : Bool) → (a && b) ≡ true → (a ≡ true) × (b ≡ true)
+  both true b h = (refl, h)
+  both false b h = absurd (false≢true h)
+
+  -- and no place inside is nearer
+  pub nearest-least : empty lower upper ≡ false → (p : ℤ) → Place p → (q : ℤ) → Place q → inside lower upper q ≡ true → distance p (nearest lower upper p) ≤ distance p q
+  nearest-least e p h q hq i =
+      let x = both (leb lo (position q)) (leb (position q) hi) (sym (inside-positions lower upper kl ku q hq) ∙ i) in
+      omega (arith, position-nearest e p h, leb-true lo (position q) (x .0), leb-true (position q) hi (x .1))

@@ -1,0 +1,4 @@
+pub mod Line
+pub mod Bounding
+pub mod Comparing
+pub mod Holding
