@@ -1,15 +1,13 @@
 -- Restriction, narrowing and widening, each from the one law. Assumes nothing.
 use mathlib.Core.Path.{_≡_, refl, sym, _∙_, ap}
 use mathlib.Core.Bool.{Bool, true, false, cond, _&&_, and-true, and-false}
-use Prim.Native.Nat.{ℕ, zero, suc, _+_, _≤_, _<_, min, max}
+use Prim.Native.Nat.{ℕ, suc, _≤_, _<_, min, max}
 use native.Mathlib.Omega.{arith}
-use lib.Dec.{ltb, leb, eqb}
-use lib.ListN.{length}
+use lib.Dec.{ltb, leb}
 use borrow.Author.Tests.{ltb-true, ltb-false, leb-true, leb-false}
-use Rattle.ids.specs.Id.{ref}
 use Rattle.diagram.specs.Pieces.{Pieces, last, cut, select, Each, Rising}
-use Rattle.diagram.specs.Table.{variables, topOf, Node, Table, at, Assignment, value}
-use Rattle.diagram.specs.Cofactor.{map, edgesOf, upd}
+use Rattle.diagram.specs.Table.{variables, topOf, Table, Assignment, value}
+use Rattle.diagram.specs.Cofactor.{upd}
 use Rattle.diagram.specs.Sound.{Known, Child, Sound}
 use Rattle.diagram.proofs.Lookup.{at-end, value-false}
 use Rattle.diagram.proofs.Piecewise.{select-left, select-right, select-before, rising-down, each-select}
@@ -20,7 +18,7 @@ use Rattle.algebra.specs.Changing.{change, fixed, cutAbove, narrowed, ke
 use Rattle.algebra.proofs.Overlays.{select-above, rising-above, each-above, select-overlay, rising-overlay, each-overlay}
 use Rattle.algebra.proofs.Made.{Made, remean}
 use Rattle.algebra.proofs.Conditioning.{rising-between, each-any}
-use Rattle.algebra.proofs.Descending.{descend, bottom, bottom-rising, bottom-at, bottom-here, Changes, changed}
+use Rattle.algebra.proofs.Descending.{bottom, bottom-rising, bottom-at, bottom-here, Changes, changed}
 
 module _ (t : Table) (z : Sound t) (v : ℕ) (hv : v < variables) (id : ℕ) (k : Known t id) where
   abbrev whole : Child t 0 id

@@ -1,19 +1,19 @@
 -- Conditions: a range between two positions, and the three kinds of condition. Assumes nothing.
 use mathlib.Core.Path.{_≡_, refl, sym, _∙_, ap}
 use mathlib.Core.Bool.{Bool, true, false, not, cond, _&&_}
-use Prim.Native.Nat.{ℕ, zero, suc, _+_, _≤_, _<_}
+use Prim.Native.Nat.{ℕ, suc, _≤_, _<_}
 use native.Mathlib.Omega.{arith}
 use lib.Dec.{ltb, leb, eqb}
 use lib.IntN.{ℤ}
-use borrow.Author.Tests.{ltb-true, ltb-false, leb-true, leb-false, eqb-true, eqb-false, lt-ltb, le-ltb, le-leb, lt-leb}
-use Rattle.ids.specs.Id.{ref, flip}
+use borrow.Author.Tests.{ltb-true, ltb-false, leb-true, leb-false, eqb-true, eqb-false, lt-leb}
+use Rattle.ids.specs.Id.{flip}
 use Rattle.ranges.specs.Line.{position, top}
-use Rattle.ranges.specs.Bounding.{Keyed, firstPlace, lastPlace}
+use Rattle.ranges.specs.Bounding.{firstPlace, lastPlace}
 use Rattle.ranges.specs.Comparing.{lowerOf, upperOf, outsideOf}
 use Rattle.ranges.specs.declared.bounds.Bound.{Bound}
 use Rattle.ranges.specs.declared.bounds.Comparison.{Comparison}
 use Rattle.diagram.specs.Pieces.{Pieces, last, cut, select, Each, Rising}
-use Rattle.diagram.specs.Table.{variables, isRange, topOf, Node, Table, at, Assignment, value}
+use Rattle.diagram.specs.Table.{variables, isRange, topOf, Table, Assignment, value}
 use Rattle.diagram.specs.Cofactor.{map}
 use Rattle.diagram.specs.Sound.{Child, Sound}
 use Rattle.diagram.proofs.Lookup.{at-end, value-true, value-false}
@@ -22,7 +22,7 @@ use Rattle.diagram.proofs.Cofactors.{select-map, rising-map, each-map}
 use Rattle.algebra.specs.Making.{create-node}
 use Rattle.algebra.specs.Conditions.{upTo, between, terminal, from-range, comparison, from-bool}
 use Rattle.algebra.proofs.Made.{Made, remean}
-use Rattle.algebra.proofs.Making.{MadeNode, created}
+use Rattle.algebra.proofs.Making.{created}
 use Rattle.algebra.proofs.Conjoining.{flip-made}
 
 -- the pieces of a range

@@ -3,21 +3,19 @@ use mathlib.Core.Path.{_≡_, refl, sym, _∙_, ap, ap₂}
 use mathlib.Core.Bool.{Bool, true, false, not, _&&_, _||_, and-true, and-self, and-false, and-not-self}
 use mathlib.Core.Option.{Option, none, some, Option·none-ne-some, Option·some-ne-none}
 use mathlib.Core.Logic.{_⊎_, inl, inr}
-use Prim.Native.Nat.{ℕ, zero, suc, _+_, _-_, _*_, _%_, _/_, _≤_, _<_, min}
+use Prim.Native.Nat.{ℕ, zero, suc, _+_, _≤_, _<_, min}
 use native.Mathlib.Omega.{arith}
 use lib.Dec.{eqb}
-use lib.ListN.{length}
 use borrow.Author.Tests.{eqb-true, eqb-false}
 use Rattle.ids.specs.Id.{ref, flip}
 use Rattle.ids.proofs.Signs.{ref-flip}
-use Rattle.diagram.specs.Pieces.{Pieces, select}
-use Rattle.diagram.specs.Table.{variables, isRange, topOf, Node, Table, at, Assignment, value}
+use Rattle.diagram.specs.Table.{variables, isRange, topOf, Table, at, Assignment, value}
 use Rattle.diagram.specs.Cofactor.{edgesOf}
 use Rattle.diagram.specs.Sound.{Known, Child, Sound, Continues}
 use Rattle.diagram.proofs.Lookup.{at-end, value-true, value-false, value-flip}
 use Rattle.diagram.proofs.Facts.{facts, var-most}
 use Rattle.diagram.proofs.Continuing.{continues-value, continues-child}
-use Rattle.diagram.proofs.Cofactors.{Kids, edges-of, edges-rising}
+use Rattle.diagram.proofs.Cofactors.{edges-of, edges-rising}
 use Rattle.diagram.proofs.Diagrams.{either-true}
 use Rattle.algebra.specs.Overlay.{overlay}
 use Rattle.algebra.specs.Conjunction.{walkIn, create-over, pick, opening, conj-node, conj-step, conj, and, or}

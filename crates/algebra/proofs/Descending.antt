@@ -5,20 +5,19 @@ use mathlib.Core.Bool.{Bool, true, false, not, cond}
 use Prim.Native.Nat.{ℕ, zero, suc, _+_, _≤_, _<_}
 use native.Mathlib.Omega.{arith}
 use lib.Dec.{ltb}
-use lib.ListN.{length}
 use borrow.Author.Tests.{ltb-true, ltb-false}
 use Rattle.ids.specs.Id.{ref}
 use Rattle.diagram.specs.Pieces.{Pieces, select, Each, Rising}
-use Rattle.diagram.specs.Table.{variables, isRange, topOf, Node, Table, at, Assignment, value}
+use Rattle.diagram.specs.Table.{variables, isRange, topOf, Table, at, Assignment, value}
 use Rattle.diagram.specs.Cofactor.{edgesOf, upd}
 use Rattle.diagram.specs.Sound.{Known, Child, Sound, Continues}
 use Rattle.diagram.proofs.Piecewise.{each-select}
 use Rattle.diagram.proofs.Continuing.{continues-at, continues-value, continues-child}
-use Rattle.diagram.proofs.Cofactors.{Kids, edges-of, edges-rising, edge-child, value-edge, upd-other, continues-edges}
+use Rattle.diagram.proofs.Cofactors.{edges-of, edges-rising, edge-child, value-edge, upd-other, continues-edges}
 use Rattle.algebra.specs.Making.{create-node}
 use Rattle.algebra.specs.Changing.{change-step, change}
 use Rattle.algebra.proofs.Made.{Made, remean, weaken}
-use Rattle.algebra.proofs.Making.{MadeNode, created}
+use Rattle.algebra.proofs.Making.{created}
 use Rattle.algebra.proofs.Walking.{created-over}
 
 -- the id that an id comes to when the variables before v are read

@@ -2,14 +2,13 @@
 use mathlib.Core.Path.{_≡_, refl, sym, _∙_, ap, ap₂}
 use mathlib.Core.Bool.{Bool, true, false, cond, _&&_, _||_, true≢false, false≢true}
 use mathlib.Core.Logic.{_⊎_, inl, inr}
-use Prim.Native.Nat.{ℕ, zero, suc, _+_, _-_, _*_, _%_, _/_, _≤_, _<_, min}
+use Prim.Native.Nat.{ℕ, zero, suc, _+_, _≤_, _<_, min}
 use native.Mathlib.Omega.{arith}
 use lib.Dec.{ltb, eqb}
-use lib.ListN.{length}
-use borrow.Author.Tests.{eqb-true, eqb-false, not-false}
+use borrow.Author.Tests.{eqb-true, eqb-false}
 use Rattle.ids.specs.Id.{ref, flip}
 use Rattle.diagram.specs.Pieces.{Pieces, last, cut, select, Rising}
-use Rattle.diagram.specs.Table.{variables, topOf, Node, Table, at, Assignment, value}
+use Rattle.diagram.specs.Table.{variables, topOf, Table, at, Assignment, value}
 use Rattle.diagram.specs.Cofactor.{edgesOf, upd}
 use Rattle.diagram.specs.Sound.{Known, Child, Sound}
 use Rattle.diagram.specs.Reading.{Within}
@@ -17,7 +16,7 @@ use Rattle.diagram.proofs.Lookup.{value-true, value-false}
 use Rattle.diagram.proofs.Piecewise.{select-left, select-right}
 use Rattle.diagram.proofs.Facts.{facts, var-most}
 use Rattle.diagram.proofs.Cofactors.{edges-of, edges-rising, edge-child, value-edge, upd-within}
-use Rattle.diagram.proofs.Apart.{Apart, apart}
+use Rattle.diagram.proofs.Apart.{apart}
 use Rattle.diagram.proofs.Diagrams.{either-true}
 use Rattle.algebra.specs.Overlay.{overlay}
 use Rattle.algebra.specs.Disjointness.{every, disjoint-step, disjoint, is-disjoint}

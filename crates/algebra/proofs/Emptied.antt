@@ -3,17 +3,15 @@
 use mathlib.Core.Path.{_≡_, refl, sym, _∙_, ap}
 use mathlib.Core.Bool.{Bool, true, false, cond}
 use mathlib.Core.Logic.{_⊎_, inl, inr}
-use Prim.Native.Nat.{ℕ, zero, suc, _+_, _≤_, _<_}
+use Prim.Native.Nat.{ℕ, suc, _≤_, _<_}
 use native.Mathlib.Omega.{arith}
-use lib.Dec.{ltb, eqb}
-use lib.IntN.{ℤ, pos}
-use lib.ListN.{length}
+use lib.Dec.{ltb}
+use lib.IntN.{pos}
 use borrow.Author.Tests.{lt-ltb, le-ltb, ltb-false}
-use Rattle.ids.specs.Id.{ref}
-use Rattle.ranges.specs.Line.{position, placeAt}
+use Rattle.ranges.specs.Line.{placeAt}
 use Rattle.ranges.proofs.Positions.{placeAt-position}
 use Rattle.diagram.specs.Pieces.{Pieces, last, cut, select, Each, Rising}
-use Rattle.diagram.specs.Table.{firstBoolean, variables, isRange, topOf, Node, Table, at, Assignment, value}
+use Rattle.diagram.specs.Table.{firstBoolean, variables, isRange, topOf, Table, Assignment, value}
 use Rattle.diagram.specs.Cofactor.{edgesOf, upd}
 use Rattle.diagram.specs.Sound.{Known, Child, Sound}
 use Rattle.diagram.specs.Reading.{Reading, positions, says, Within}
@@ -26,7 +24,7 @@ use Rattle.diagram.proofs.Readings.{positions-within, reading, place-reading, h
 use Rattle.algebra.specs.Changing.{change, emptied}
 use Rattle.algebra.specs.Answering.{Answers}
 use Rattle.algebra.specs.Emptying.{SameBefore, SameAfter, StillChanges, Steady, EmptyAnswer}
-use Rattle.algebra.proofs.Made.{Made, answers}
+use Rattle.algebra.proofs.Made.{answers}
 use Rattle.algebra.proofs.Descending.{descend, Before, descend-value, bottom-child, Changes, changed}
 
 emptied-changes : (v : ℕ) → v < variables → Changes v emptied

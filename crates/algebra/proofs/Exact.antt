@@ -2,26 +2,26 @@
 -- exact, and a table that holds the answer already gets nothing added. Assumes nothing.
 use mathlib.Core.Path.{_≡_, refl, sym, _∙_, ap}
 use mathlib.Core.Bool.{Bool}
-use mathlib.Core.List.{List, [], _∷_, List·Memᴰ}
+use mathlib.Core.List.{[], _∷_, List·Memᴰ}
 use mathlib.Core.Logic.{_↔_}
-use Prim.Native.Nat.{ℕ, zero, suc, _+_, _*_, _/_, _≤_, _<_}
+use Prim.Native.Nat.{ℕ, zero, suc, _*_, _≤_, _<_}
 use native.Mathlib.Omega.{arith}
 use native.Mathlib.Decide.{decLt}
 use lib.ListN.{length}
 use Rattle.ids.specs.Id.{ref}
 use Rattle.diagram.specs.Pieces.{count}
-use Rattle.diagram.specs.Table.{variables, topOf, Node, Table, at, Assignment, value}
+use Rattle.diagram.specs.Table.{topOf, Node, Table, at, value}
 use Rattle.diagram.specs.Sound.{Known, Sound, Continues, same}
-use Rattle.diagram.specs.Reading.{Reading, positions, says, Within}
+use Rattle.diagram.specs.Reading.{Reading, positions, says}
 use Rattle.diagram.specs.Room.{width, edgeTotal, Fits}
-use Rattle.diagram.specs.Ordered.{Ordered, varOf, runsOf, tells, down, sum, diagramOf}
+use Rattle.diagram.specs.Ordered.{Ordered, runsOf, down, sum, diagramOf}
 use Rattle.diagram.proofs.Lookup.{at-new, at-old}
 use Rattle.diagram.proofs.Facts.{facts}
 use Rattle.diagram.proofs.Continuing.{continues-length, continues-at, continues-value, continues-same}
 use Rattle.diagram.proofs.Counting.{falling-down, mem-down, down-mem, Partner, weigh, sum-down}
 use Rattle.diagram.proofs.Runs.{length-runs}
-use Rattle.diagram.proofs.Diagrams.{sound-ordered, tells-value, var-of}
-use Rattle.diagram.proofs.Fewest.{is-vertex, Same, IsNode, Settled, Twin, twin, Pair, pair-inj, lighter}
+use Rattle.diagram.proofs.Diagrams.{sound-ordered, tells-value}
+use Rattle.diagram.proofs.Fewest.{is-vertex, IsNode, twin, Pair, pair-inj, lighter}
 use Rattle.diagram.proofs.Apart.{one-id}
 use Rattle.diagram.proofs.Readings.{under-assignments}
 use Rattle.algebra.specs.Answering.{Answers, Answerable, AtLeast}
@@ -34,8 +34,12 @@ sum-same w w′ (suc n) h = omega (arith, h (suc n) (omega arith), sum-same w w�
 edges-sum : (t : Table) → sum (width t) (down (length t)) ≡ edgeTotal t
 edges-sum [] = refl
 edges-sum (nd ∷ t) =
-    omega (arith, ap (λ (n : Node). count (n .edges)) (at-new nd t), edges-sum t,
-    sum-same (width (nd ∷ t)) (width t) (length t) (λ r l. ap (λ (n : Node). count (n .edges)) (at-old nd t r l)))
+    omega (
+      arith,
+      ap (λ (n : Node). count (n .edges)) (at-new nd t),
+      edges-sum t,
+      sum-same (width (nd ∷ t)) (width t) (length t) (λ r l. ap (λ (n : Node). count (n .edges)) (at-old nd t r l)),
+    )
 
 width-runs : (t : Table) (r : ℕ) → 0 < r → length (runsOf (diagramOf t) r) ≡ width t r
 width-runs t zero h = absurd (omega arith)
@@ -88,7 +92,7 @@ module _ (t : Table) (m : Reading → Bool) (out : Table × ℕ) (x : Answers t 
   new : (r : ℕ) → length t < r → r ≤ length t′ → Match r
   new r p l =
       let w = twin t′ z (diagramOf s) os (x .reached r p l) (out .1) i refl (omega arith) (x .known) hi
-          (λ α q. under-assignments (λ β. value t′ β (out .1) ≡ value s β i) (λ ρ. x .means ρ ∙ sym (h ρ)) α q ∙ sym (tells-value s zs α q i hi)) in
+      (λ α q. under-assignments (λ β. value t′ β (out .1) ≡ value s β i) (λ ρ. x .means ρ ∙ sym (h ρ)) α q ∙ sym (tells-value s zs α q i hi)) in
       let k = w .partner in
       let nx : IsNode t′ z (diagramOf s) os (w .of) = record { some = omega (arith, w .ref-is); inside = omega (arith, w .ref-is) } in
       let hk = is-vertex (diagramOf s) (ref (k .to)) (omega (arith, k .vars, facts t′ z (ref (w .of)) (nx .some) (nx .inside) .known)) in
@@ -143,5 +147,5 @@ pub answer-held : (t : Table) → Sound t → (m : Reading → Bool) (out : Tabl
 answer-held t z m out x c k h =
     let p = continues-same (x .continues) (no-smaller t m out x t z same c k h .nodes) in
     let q = one-id (out .0) (x .sound) (out .1) c (x .known) (omega (arith, continues-length (x .continues)))
-        (under-assignments (λ α. value (out .0) α (out .1) ≡ value (out .0) α c) (λ ρ. x .means ρ ∙ sym (h ρ) ∙ sym (continues-value (x .continues) (positions ρ) c k))) in
+    (under-assignments (λ α. value (out .0) α (out .1) ≡ value (out .0) α c) (λ ρ. x .means ρ ∙ sym (h ρ) ∙ sym (continues-value (x .continues) (positions ρ) c k))) in
     λ n. (p n, q n)

@@ -1,19 +1,19 @@
 -- What an operation has made, as its proof carries it: over all assignments, with the variable from which on the answer tests.
 -- Assumes nothing.
-use mathlib.Core.Path.{_≡_, refl, sym, _∙_, ap}
+use mathlib.Core.Path.{_≡_, sym, _∙_}
 use mathlib.Core.Bool.{Bool}
 use Prim.Native.Nat.{ℕ, zero, suc, _≤_, _<_, min}
 use native.Mathlib.Omega.{arith}
 use lib.ListN.{length}
 use Rattle.ids.specs.Id.{ref}
 use Rattle.diagram.specs.Pieces.{select, Rising}
-use Rattle.diagram.specs.Table.{variables, topOf, Node, Table, at, Assignment, value}
-use Rattle.diagram.specs.Sound.{Known, Child, Sound, Continues, same}
-use Rattle.diagram.specs.Reading.{Reading, positions, says}
-use Rattle.diagram.specs.Ordered.{Path, here, via, childAt, runsOf, diagramOf}
+use Rattle.diagram.specs.Table.{topOf, Node, Table, at, Assignment, value}
+use Rattle.diagram.specs.Sound.{Child, Sound, Continues, same}
+use Rattle.diagram.specs.Reading.{Reading, positions}
+use Rattle.diagram.specs.Ordered.{Path, here, childAt, runsOf, diagramOf}
 use Rattle.diagram.proofs.Piecewise.{reduced-rising, select-beyond}
 use Rattle.diagram.proofs.Facts.{facts, kid-at}
-use Rattle.diagram.proofs.Continuing.{continues-at, continues-trans}
+use Rattle.diagram.proofs.Continuing.{continues-at}
 use Rattle.diagram.proofs.Runs.{child-runs}
 use Rattle.diagram.proofs.Diagrams.{path-trans, child-path, sound-ordered}
 use Rattle.algebra.specs.Answering.{Answers}

@@ -1,8 +1,8 @@
 -- Node making: the answer says what the edges say. Assumes nothing.
 use mathlib.Core.Path.{_≡_, refl, sym, _∙_, ap}
 use mathlib.Core.Bool.{Bool, true, false, cond, _&&_, true≢false, false≢true}
-use mathlib.Core.List.{List, [], _∷_}
-use Prim.Native.Nat.{ℕ, zero, suc, _+_, _*_, _/_, _%_, _≤_, _<_}
+use mathlib.Core.List.{[], _∷_}
+use Prim.Native.Nat.{ℕ, zero, suc, _+_, _*_, _≤_, _<_}
 use native.Mathlib.Omega.{arith}
 use native.Mathlib.Decide.{ℕ-discrete}
 use lib.Dec.{eqb}
@@ -10,10 +10,10 @@ use lib.ListN.{length}
 use borrow.Author.Tests.{eqb-true, eq-eqb}
 use Rattle.ids.specs.Id.{sign, ref, under}
 use Rattle.ids.proofs.Signs.{under-inj, ref-under, sign-under}
-use Rattle.diagram.specs.Pieces.{Pieces, last, cut, select, first, count, Each, Rising, Reduced}
-use Rattle.diagram.specs.Table.{variables, topOf, Node, Table, end, at, Assignment, flipped, truth, value}
+use Rattle.diagram.specs.Pieces.{Pieces, last, cut, select, Each, Rising, Reduced}
+use Rattle.diagram.specs.Table.{variables, topOf, Node, Table, at, Assignment, flipped, truth, value}
 use Rattle.diagram.specs.Cofactor.{map}
-use Rattle.diagram.specs.Sound.{Known, Child, Extends, Sound, same, more}
+use Rattle.diagram.specs.Sound.{Child, Extends, Sound, same, more}
 use Rattle.diagram.proofs.Lookup.{at-new, at-old, at-end, truth-new, value-under, value-ref, flipped-flipped}
 use Rattle.diagram.proofs.Piecewise.{count-pos}
 use Rattle.diagram.proofs.Facts.{facts}

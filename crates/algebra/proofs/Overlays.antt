@@ -1,11 +1,11 @@
 -- Laws of overlay and merge: what is selected, that cuts rise, and what each value keeps. Assumes nothing.
 use mathlib.Core.Path.{_≡_, refl, sym, _∙_, ap}
 use mathlib.Core.Bool.{Bool, true, false, cond}
-use Prim.Native.Nat.{ℕ, zero, suc, _≤_, _<_}
+use Prim.Native.Nat.{ℕ, _≤_, _<_}
 use native.Mathlib.Omega.{arith}
 use lib.Dec.{ltb, leb, eqb}
 use borrow.Author.Tests.{ltb-true, ltb-false, leb-true, leb-false, eqb-true, eqb-false}
-use Rattle.diagram.specs.Pieces.{Pieces, last, cut, select, first, count, Each, Rising, Reduced}
+use Rattle.diagram.specs.Pieces.{Pieces, last, cut, select, first, Each, Rising, Reduced}
 use Rattle.diagram.proofs.Piecewise.{select-left, select-right, select-before, reduced-rising, reduced-down}
 use Rattle.algebra.specs.Overlay.{below, beside, above, overlay, join, merge}
 

@@ -1,28 +1,26 @@
 -- What a reader of the demands looks for of the operations: theorems 4, 5 and 6. Theorems 1, 2, 3 and 7 are in the crate diagram, and
 -- 8 in Cases. Readings, bounds and comparisons are document 01's. Assumes nothing.
 use mathlib.Core.Path.{_≡_, refl, sym, _∙_, ap}
-use mathlib.Core.Bool.{Bool, true, false, not, cond, _&&_, _||_, and-false, false≢true, true≢false}
+use mathlib.Core.Bool.{Bool, true, false, cond, _&&_, _||_, and-false, false≢true}
 use mathlib.Core.Logic.{_↔_, _⊎_}
-use Prim.Native.Nat.{ℕ, zero, suc, _≤_, _<_, min, max}
+use Prim.Native.Nat.{ℕ, suc, _≤_, _<_, min, max}
 use native.Mathlib.Omega.{arith}
 use lib.Dec.{leb, ltb}
 use lib.IntN.{ℤ}
-use lib.ListN.{length}
 use borrow.Author.Tests.{lt-ltb, le-ltb, ltb-true, lt-leb, leb-true}
-use Rattle.ids.specs.Id.{TRUE, FALSE, ref}
+use Rattle.ids.specs.Id.{FALSE}
 use Rattle.ranges.specs.Line.{Key, Place, position, top}
 use Rattle.ranges.specs.Bounding.{Keyed, inside, firstPlace, lastPlace, empty, nearest}
-use Rattle.ranges.specs.Comparing.{compares, lowerOf, upperOf, outsideOf}
+use Rattle.ranges.specs.Comparing.{compares, lowerOf, upperOf}
 use Rattle.ranges.specs.declared.bounds.Bound.{Bound}
-use Rattle.ranges.specs.declared.bounds.Bound.the-variants.{Open}
 use Rattle.ranges.specs.declared.bounds.Comparison.{Comparison}
 use Rattle.ranges.proofs.Positions.{position-top, place-first, place-last, inside-positions, empty-positions, compares-bounds, keyed-lower, keyed-upper}
 use Rattle.ranges.proofs.Nearest.{first-last, place-nearest, position-nearest}
 use Rattle.diagram.specs.Pieces.{Pieces, select, Each, Rising}
-use Rattle.diagram.specs.Table.{firstBoolean, variables, isRange, topOf, Table, Assignment, value}
+use Rattle.diagram.specs.Table.{firstBoolean, variables, topOf, Table, Assignment, value}
 use Rattle.diagram.specs.Cofactor.{upd}
 use Rattle.diagram.specs.Sound.{Known, Child, Sound, Continues}
-use Rattle.diagram.specs.Reading.{Reading, positions, says, atPlace, switched, Within}
+use Rattle.diagram.specs.Reading.{Reading, positions, says, atPlace, switched}
 use Rattle.diagram.specs.Room.{Fits}
 use Rattle.diagram.proofs.Lookup.{value-false}
 use Rattle.diagram.proofs.Readings.{positions-within, positions-atPlace, positions-switched, under-assignments}
@@ -33,11 +31,11 @@ use Rattle.algebra.specs.Disjointness.{is-disjoint}
 use Rattle.algebra.specs.Changing.{restrict, narrow, widen}
 use Rattle.algebra.specs.Answering.{Answers, Answerable, AtLeast}
 use Rattle.algebra.specs.Emptying.{Steady, StillChanges, EmptyAnswer}
-use Rattle.algebra.proofs.Made.{Made, unchanged, answers}
-use Rattle.algebra.proofs.Making.{MadeNode, created}
+use Rattle.algebra.proofs.Made.{unchanged, answers}
+use Rattle.algebra.proofs.Making.{created}
 use Rattle.algebra.proofs.Conditioning.{select-between, from-range-made, comparison-made, from-bool-made}
 use Rattle.algebra.proofs.Conjoining.{and-made, or-made}
-use Rattle.algebra.proofs.Disjoint.{Both, disjoint-answer, answer-yes, answer-no}
+use Rattle.algebra.proofs.Disjoint.{disjoint-answer, answer-yes, answer-no}
 use Rattle.algebra.proofs.Changed.{fixed-made, narrowed-made, widened-made}
 use Rattle.algebra.proofs.Emptied.{emptied-answers, steady-or-changing}
 use Rattle.algebra.proofs.Exact.{no-smaller, room-exact, answer-held}

@@ -2,20 +2,18 @@
 -- same by the memo law. Assumes nothing.
 use mathlib.Core.Path.{_≡_, refl, sym, _∙_, ap, fun-ext}
 use mathlib.Core.Bool.{Bool, true, false, cond, _&&_, and-true}
-use Prim.Native.Nat.{ℕ, zero, suc, _≤_, _<_}
+use Prim.Native.Nat.{ℕ, zero, suc, _<_}
 use native.Mathlib.Omega.{arith}
 use lib.Dec.{eqb}
-use lib.IntN.{ℤ}
-use lib.ListN.{length}
 use borrow.Author.Tests.{eqb-true}
-use Rattle.ids.specs.Id.{TRUE, FALSE, ref}
+use Rattle.ids.specs.Id.{FALSE}
 use Rattle.ranges.specs.Line.{position}
 use Rattle.ranges.specs.Bounding.{Keyed, inside, empty, nearest}
 use Rattle.ranges.specs.declared.bounds.Bound.{Bound}
 use Rattle.ranges.specs.declared.bounds.Bound.the-variants.{Open}
 use Rattle.ranges.proofs.Positions.{position-top}
 use Rattle.ranges.proofs.Nearest.{place-nearest, position-nearest}
-use Rattle.diagram.specs.Table.{firstBoolean, topOf, Table, Assignment, value}
+use Rattle.diagram.specs.Table.{firstBoolean, Table, Assignment, value}
 use Rattle.diagram.specs.Cofactor.{upd}
 use Rattle.diagram.specs.Sound.{Known, Sound}
 use Rattle.diagram.specs.Reading.{Reading, positions, says, atPlace}
@@ -48,7 +46,7 @@ module _ (t : Table) (z : Sound t) (v : ℕ) (hv : v < firstBoolean) where
       go : (b : Bool) → empty lower upper ≡ b → narrow t v lower upper id ≡ (t, id)
       go true e = held-answer-is-given t z (λ ρ. says t ρ id) (narrow t v lower upper id) (narrow-empty-answers t z id k v hv lower upper kl ku e (λ ρ. says t ρ id)
           (λ ρ. (λ c. absurd (c .apart (steady-terminal t id h (c .one) (c .other))), λ s. refl))) id k (λ ρ. refl)
-      go false e = held-answer-is-given t z _ (narrow t v lower upper id) (narrow-answers t z id k v hv lower upper kl ku e) id k 
+      go false e = held-answer-is-given t z _ (narrow t v lower upper id) (narrow-answers t z id k v hv lower upper kl ku e) id k
           (λ ρ. steady-terminal t id h ρ (atPlace ρ v (nearest lower upper (ρ .place v)) (place-nearest lower upper kl ku (ρ .place v) (ρ .within v))))
 
   module _ (id : ℕ) (k : Known t id) where

@@ -1,5 +1,5 @@
 -- Going over pieces with an operation, in either order, and making a node of what comes back. Assumes nothing.
-use mathlib.Core.Path.{_≡_, refl, sym, _∙_, ap}
+use mathlib.Core.Path.{_≡_, _∙_}
 use mathlib.Core.Bool.{Bool, true, false, cond}
 use Prim.Native.Nat.{ℕ, suc, _≤_, _<_}
 use native.Mathlib.Omega.{arith}
@@ -9,7 +9,7 @@ use lib.ListN.{length}
 use Rattle.ids.specs.Id.{ref}
 use Rattle.diagram.specs.Pieces.{Pieces, last, cut, select, Each, Rising}
 use Rattle.diagram.specs.Table.{variables, topOf, Table, Assignment, value}
-use Rattle.diagram.specs.Sound.{Known, Child, Sound, Continues, same}
+use Rattle.diagram.specs.Sound.{Child, Sound, Continues, same}
 use Rattle.diagram.proofs.Piecewise.{select-left, select-right, each-select}
 use Rattle.diagram.proofs.Continuing.{continues-trans, continues-value, continues-child, continues-kids}
 use Rattle.algebra.specs.Conjunction.{walk, walkBack, walkIn, create-over}

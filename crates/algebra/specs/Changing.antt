@@ -8,7 +8,7 @@ use Rattle.ranges.specs.Line.{position}
 use Rattle.ranges.specs.Bounding.{firstPlace, lastPlace, empty}
 use Rattle.ranges.specs.declared.bounds.Bound.{Bound}
 use Rattle.diagram.specs.Pieces.{Pieces, last, cut, select}
-use Rattle.diagram.specs.Table.{variables, isRange, topOf, Node, Table, at}
+use Rattle.diagram.specs.Table.{variables, isRange, topOf, Table, at}
 use Rattle.diagram.specs.Cofactor.{map, edgesOf}
 use Rattle.algebra.specs.Overlay.{above, overlay}
 use Rattle.algebra.specs.Making.{create-node}

@@ -5,7 +5,7 @@ use Prim.Native.Nat.{ℕ, zero, suc, min}
 use lib.Dec.{eqb}
 use Rattle.ids.specs.Id.{TRUE, FALSE, ref, flip}
 use Rattle.diagram.specs.Pieces.{Pieces, last, cut}
-use Rattle.diagram.specs.Table.{variables, isRange, Node, Table, at}
+use Rattle.diagram.specs.Table.{variables, isRange, Table, at}
 use Rattle.diagram.specs.Cofactor.{edgesOf}
 use Rattle.algebra.specs.Overlay.{overlay}
 use Rattle.algebra.specs.Making.{create-node}

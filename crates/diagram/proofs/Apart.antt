@@ -1,22 +1,21 @@
 -- Canonicity: two ids of a sound table that are not equal are told apart by an assignment, which is shown. Assumes nothing.
 use mathlib.Core.Path.{_≡_, refl, sym, _∙_, ap}
 use mathlib.Core.Bool.{Bool, true, false, cond, true≢false, false≢true}
-use Prim.Native.Nat.{ℕ, zero, suc, _+_, _-_, _*_, _/_, _%_, _≤_, _<_, min}
+use Prim.Native.Nat.{ℕ, zero, suc, _+_, _≤_, _<_, min}
 use native.Mathlib.Omega.{arith}
 use native.Mathlib.Decide.{ℕ-discrete, decLt}
 use lib.Dec.{eqb}
-use lib.ListN.{length}
 use borrow.Author.Tests.{eqb-true, eqb-false}
 use Rattle.ids.specs.Id.{sign, ref, under}
 use Rattle.ids.proofs.Signs.{under-inj}
 use Rattle.diagram.specs.Pieces.{Pieces, last, select, count}
-use Rattle.diagram.specs.Table.{variables, topOf, Node, Table, at, Assignment, flipped, truth, value}
+use Rattle.diagram.specs.Table.{variables, topOf, Table, at, Assignment, flipped, value}
 use Rattle.diagram.specs.Cofactor.{map, edgesOf, upd}
 use Rattle.diagram.specs.Sound.{Known, Child, Sound}
 use Rattle.diagram.specs.Reading.{Within}
-use Rattle.diagram.proofs.Piecewise.{Differ, differ}
+use Rattle.diagram.proofs.Piecewise.{differ}
 use Rattle.diagram.proofs.Facts.{facts, is-node, is-end, distinct, origin, truth-origin}
-use Rattle.diagram.proofs.Cofactors.{count-map, map-inj, Kids, edges-of, edge-child, value-edge, upd-within}
+use Rattle.diagram.proofs.Cofactors.{count-map, map-inj, edges-of, edge-child, value-edge, upd-within}
 
 -- an assignment under which two ids say different things
 pub record Apart (t : Table) (a b : ℕ) : Type 0 where

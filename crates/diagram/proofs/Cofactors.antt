@@ -1,15 +1,14 @@
 -- The children of an id at a variable say what the id says. Assumes nothing.
 use mathlib.Core.Path.{_≡_, refl, sym, _∙_, ap}
 use mathlib.Core.Bool.{Bool, true, false, cond}
-use Prim.Native.Nat.{ℕ, zero, suc, _+_, _≤_, _<_}
+use Prim.Native.Nat.{ℕ, suc, _≤_, _<_}
 use native.Mathlib.Omega.{arith}
 use lib.Dec.{ltb, eqb}
-use lib.ListN.{length}
 use borrow.Author.Tests.{eqb-true, eqb-false, eq-eqb, ne-eqb}
 use Rattle.ids.specs.Id.{sign, ref, under}
 use Rattle.ids.proofs.Signs.{under-inj, ref-under}
 use Rattle.diagram.specs.Pieces.{Pieces, last, cut, select, first, count, Each, Rising, Reduced}
-use Rattle.diagram.specs.Table.{variables, topOf, Node, Table, at, Assignment, flipped, truth, value}
+use Rattle.diagram.specs.Table.{variables, topOf, Table, at, Assignment, flipped, value}
 use Rattle.diagram.specs.Cofactor.{map, edgesOf, upd}
 use Rattle.diagram.specs.Sound.{Known, Child, Sound, Continues}
 use Rattle.diagram.specs.Reading.{Within}

@@ -1,13 +1,12 @@
 -- A table that continues another: old nodes stay, and old ids say what they said. Assumes nothing.
 use mathlib.Core.Path.{_≡_, refl, _∙_}
-use mathlib.Core.List.{_∷_}
-use Prim.Native.Nat.{ℕ, suc, _≤_}
+use Prim.Native.Nat.{ℕ, _≤_}
 use native.Mathlib.Omega.{arith}
 use lib.ListN.{length}
 use Rattle.ids.specs.Id.{ref}
 use Rattle.diagram.specs.Pieces.{Pieces, Each}
-use Rattle.diagram.specs.Table.{Node, Table, at, Assignment, value}
-use Rattle.diagram.specs.Sound.{Known, Child, Sound, Continues, same, more}
+use Rattle.diagram.specs.Table.{Table, at, Assignment, value}
+use Rattle.diagram.specs.Sound.{Known, Child, Continues, same, more}
 use Rattle.diagram.proofs.Lookup.{at-old, value-old}
 use Rattle.diagram.proofs.Piecewise.{each-imp}
 

@@ -7,15 +7,15 @@ use Prim.Native.Nat.{ℕ, zero, suc, _+_, _≤_, _<_}
 use native.Mathlib.Omega.{arith}
 use lib.Dec.{eqb}
 use lib.ListN.{length}
-use borrow.Author.Tests.{eqb-true, eq-eqb, lt-ltb, le-ltb}
+use borrow.Author.Tests.{eqb-true, eq-eqb, le-ltb}
 use Rattle.ids.specs.Id.{sign, ref, under}
 use Rattle.ids.proofs.Signs.{ref-under}
-use Rattle.diagram.specs.Pieces.{select, Reduced}
+use Rattle.diagram.specs.Pieces.{select}
 use Rattle.diagram.specs.Table.{firstBoolean, variables, topOf, Node, Table, at, Assignment, flipped, signed, truth, value}
 use Rattle.diagram.specs.Cofactor.{upd}
 use Rattle.diagram.specs.Sound.{Known, Child, Sound}
 use Rattle.diagram.specs.Reading.{Within}
-use Rattle.diagram.specs.Ordered.{Run, Vertex, Diagram, holds, holders, childAt, varOf, runsOf, Later, OrderedAt, Ordered, follow, tells, Path, here, via, any, reaches, down, filter, reached, runs, vertexOf, diagramOf}
+use Rattle.diagram.specs.Ordered.{Run, Diagram, holds, holders, childAt, varOf, runsOf, Later, Ordered, follow, tells, Path, here, via, any, reaches, down, reached, runs, diagramOf}
 use Rattle.diagram.proofs.Lookup.{at-end, truth-end, signed-under}
 use Rattle.diagram.proofs.Piecewise.{reduced-rising}
 use Rattle.diagram.proofs.Facts.{Facts, facts}

@@ -1,15 +1,15 @@
 -- Facts of a sound table, node by node. Assumes nothing.
 use mathlib.Core.Path.{_≡_, refl, sym, _∙_, ap}
-use mathlib.Core.Bool.{Bool, true, false}
-use mathlib.Core.List.{List, [], _∷_}
-use Prim.Native.Nat.{ℕ, zero, suc, _+_, _≤_, _<_}
+use mathlib.Core.Bool.{true}
+use mathlib.Core.List.{[], _∷_}
+use Prim.Native.Nat.{ℕ, zero, suc, _≤_, _<_}
 use native.Mathlib.Omega.{arith}
 use native.Mathlib.Decide.{ℕ-discrete}
 use lib.ListN.{length}
 use Rattle.ids.specs.Id.{sign, ref}
 use Rattle.diagram.specs.Pieces.{Pieces, select, first, count, Each, Reduced}
 use Rattle.diagram.specs.Table.{variables, topOf, Node, Table, at, Assignment, signed, truth, value}
-use Rattle.diagram.specs.Sound.{Known, Child, Extends, Sound}
+use Rattle.diagram.specs.Sound.{Child, Extends, Sound}
 use Rattle.diagram.proofs.Lookup.{at-new, at-old, at-end, truth-new, truth-old, value-old}
 use Rattle.diagram.proofs.Piecewise.{each-select, each-imp, select-low}
 

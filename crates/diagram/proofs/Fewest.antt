@@ -1,8 +1,8 @@
 -- An id of a sound table beside an id of any ordered diagram that says the same: each node that the first reaches has a partner that
 -- the second reaches, with as many edges or more, and no two have the same partner. Assumes nothing.
 use mathlib.Core.Path.{_≡_, refl, sym, _∙_, ap}
-use mathlib.Core.Bool.{Bool, true, false, not}
-use mathlib.Core.List.{List, List·Memᴰ}
+use mathlib.Core.Bool.{true, not}
+use mathlib.Core.List.{List·Memᴰ}
 use Prim.Native.Nat.{ℕ, zero, suc, _+_, _≤_, _<_}
 use native.Mathlib.Omega.{arith}
 use native.Mathlib.Decide.{ℕ-discrete, decLt}
@@ -15,14 +15,14 @@ use Rattle.diagram.specs.Cofactor.{edgesOf, upd}
 use Rattle.diagram.specs.Sound.{Known, Child, Sound}
 use Rattle.diagram.specs.Reading.{Within}
 use Rattle.diagram.specs.Room.{width}
-use Rattle.diagram.specs.Ordered.{Run, Diagram, holds, childAt, varOf, runsOf, Later, Ordered, tells, Path, here, via, down, sum, reached, nodeCount, edgeCount, runs, diagramOf}
-use Rattle.diagram.proofs.Lookup.{at-end, value-flip}
-use Rattle.diagram.proofs.Piecewise.{reduced-rising, Two, two}
-use Rattle.diagram.proofs.Facts.{facts, is-node, value-agree}
+use Rattle.diagram.specs.Ordered.{Run, Diagram, holds, childAt, varOf, runsOf, Later, Ordered, tells, Path, here, via, down, reached, nodeCount, edgeCount, diagramOf}
+use Rattle.diagram.proofs.Lookup.{value-flip}
+use Rattle.diagram.proofs.Piecewise.{reduced-rising, two}
+use Rattle.diagram.proofs.Facts.{facts, value-agree}
 use Rattle.diagram.proofs.Cofactors.{edges-of, edge-child, value-edge, select-own, count-own, upd-later, upd-within}
 use Rattle.diagram.proofs.Apart.{one-id}
 use Rattle.diagram.proofs.Counting.{falling-filter, falling-down, Partner, weigh, sum-one}
-use Rattle.diagram.proofs.Runs.{Held, length-runs, Piece, run-piece, no-fewer}
+use Rattle.diagram.proofs.Runs.{length-runs, Piece, run-piece, no-fewer}
 use Rattle.diagram.proofs.Diagrams.{path-trans, reached-path, path-reached, held-at, child-run, kid, kid-later, kid-path, tells-agree, tells-under, tells-kid, sound-ordered}
 
 -- a ref with a variable of the order is a node's
@@ -201,7 +201,7 @@ module _ (t : Table) (z : Sound t) (d : Diagram) (o : Ordered d) where
       one x m p q xp xq _ lp _ lq =
           let u = sign (y .to) in
           let g : childAt (runsOf d (ref (y .to))) p ≡ childAt (runsOf d (ref (y .to))) q
-              = child-run d o (ref (y .to)) p hy (y .inside) (rw (y .vars) lp) x m xp ∙ sym (child-run d o (ref (y .to)) q hy (y .inside) (rw (y .vars) lq) x m xq) in
+          = child-run d o (ref (y .to)) p hy (y .inside) (rw (y .vars) lp) x m xp ∙ sym (child-run d o (ref (y .to)) q hy (y .inside) (rw (y .vars) lq) x m xq) in
           one-id t z (select (e a na) p) (select (e a na) q) (child a na p .0) (child a na q .0)
           (λ α w. kid-same a na (y .to) p hy (y .inside) (y .vars) lp (y .same) α w ∙ ap (λ (n : ℕ). tells d α (under u n)) g ∙ sym (kid-same a na (y .to) q hy (y .inside) (y .vars) lq (y .same) α w))
 
@@ -227,10 +227,9 @@ module _ (t : Table) (z : Sound t) (d : Diagram) (o : Ordered d) where
   pub fewest : (a c : ℕ) → Known t a → ref c ≤ d .size → Same a c → (nodeCount (diagramOf t) a ≤ nodeCount d c) × (edgeCount (diagramOf t) a ≤ edgeCount d c)
   unfolding reached
   fewest a c la lc i =
-      let f = falling-filter _ (suc (length t)) (down (length t)) (falling-down (length t)) in
-      (
+      let f = falling-filter _ (suc (length t)) (down (length t)) (falling-down (length t)) in (
         rw (← (sum-one (reached (diagramOf t) a)), ← (sum-one (reached d c)))
-        (weigh (λ x. 1) (λ x. 1) Pair pair-inj (suc (length t)) (reached (diagramOf t) a) f (reached d c) (λ s m. partner a c s la lc i m (λ x. 1) (λ x. 1) (λ x k n. omega arith))),
+            (weigh (λ x. 1) (λ x. 1) Pair pair-inj (suc (length t)) (reached (diagramOf t) a) f (reached d c) (λ s m. partner a c s la lc i m (λ x. 1) (λ x. 1) (λ x k n. omega arith))),
         weigh (λ r. length (runsOf (diagramOf t) r)) (λ r. length (runsOf d r)) Pair pair-inj (suc (length t)) (reached (diagramOf t) a) f (reached d c)
-        (λ s m. partner a c s la lc i m (λ r. length (runsOf (diagramOf t) r)) (λ r. length (runsOf d r)) (λ x k n. rw (edges-are (ref x) (n .some)) (lighter x c n k))),
+            (λ s m. partner a c s la lc i m (λ r. length (runsOf (diagramOf t) r)) (λ r. length (runsOf d r)) (λ x k n. rw (edges-are (ref x) (n .some)) (lighter x c n k))),
       )

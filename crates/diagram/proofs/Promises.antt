@@ -1,15 +1,14 @@
 -- What a reader of the demands looks for, as far as it speaks of tables alone. The operations' part is in the crate algebra.
 -- Readings are document 01's: whole-number places within the end places, and yes-or-no values. Assumes nothing.
-use mathlib.Core.Path.{_≡_, refl, sym, _∙_, ap, fun-ext}
+use mathlib.Core.Path.{_≡_, refl, ap, fun-ext}
 use mathlib.Core.Bool.{Bool, true, false, not, cond, false≢true}
 use mathlib.Core.Logic.{_↔_}
 use Prim.Native.Nat.{ℕ, zero, suc, _≤_, _<_}
 use native.Mathlib.Omega.{arith}
-use lib.Dec.{ltb}
 use Rattle.ids.specs.Id.{sign, ref, flip}
-use Rattle.diagram.specs.Table.{isRange, Table, Assignment, flipped, value}
+use Rattle.diagram.specs.Table.{isRange, Table, flipped, value}
 use Rattle.diagram.specs.Sound.{Known, Sound, Continues}
-use Rattle.diagram.specs.Reading.{Reading, positions, says, lowestReading, Within}
+use Rattle.diagram.specs.Reading.{Reading, positions, says, lowestReading}
 use Rattle.diagram.specs.Ordered.{Diagram, Ordered, tells, nodeCount, edgeCount, diagramOf}
 use Rattle.diagram.proofs.Lookup.{value-flip}
 use Rattle.diagram.proofs.Facts.{origin}

@@ -1,17 +1,17 @@
 -- Document 01's readings and the assignments of positions that stand for them. Assumes nothing.
-use mathlib.Core.Path.{_≡_, refl, sym, _∙_, ap, fun-ext}
+use mathlib.Core.Path.{_≡_, refl, fun-ext}
 use mathlib.Core.Bool.{Bool, true, false, cond}
 use Prim.Native.Nat.{ℕ, zero, suc, _≤_, _<_}
 use native.Mathlib.Omega.{arith}
 use lib.Dec.{ltb, eqb}
 use lib.IntN.{ℤ, pos}
 use lib.Signed.{leZ-yes}
-use borrow.Author.Tests.{ltb-true, ltb-false, eqb-true, lt-ltb, le-ltb}
+use borrow.Author.Tests.{eqb-true, lt-ltb, le-ltb}
 use Rattle.ranges.specs.Line.{Place, position, placeAt, top}
 use Rattle.ranges.proofs.Positions.{position-top, place-placeAt, position-placeAt}
-use Rattle.diagram.specs.Table.{firstBoolean, isRange, topOf, Table, Assignment, value}
+use Rattle.diagram.specs.Table.{firstBoolean, isRange, Assignment}
 use Rattle.diagram.specs.Cofactor.{upd}
-use Rattle.diagram.specs.Reading.{Reading, positions, says, atPlace, switched, Within}
+use Rattle.diagram.specs.Reading.{Reading, positions, atPlace, switched, Within}
 
 -- a reading gives positions within each variable's own
 pub positions-within : (ρ : Reading) → Within (positions ρ)

@@ -2,14 +2,14 @@
 use mathlib.Core.Path.{_≡_, refl, sym, _∙_, ap}
 use mathlib.Core.Bool.{Bool, true, false, cond, _&&_, false≢true}
 use mathlib.Core.List.{List, [], _∷_, List·Memᴰ, List·Memᴰ·head, List·Memᴰ·tail}
-use Prim.Native.Nat.{ℕ, zero, suc, _+_, _-_, _≤_, _<_}
+use Prim.Native.Nat.{ℕ, suc, _+_, _-_, _≤_, _<_}
 use native.Mathlib.Omega.{arith}
 use lib.Dec.{leb, ltb}
 use lib.ListN.{length}
 use borrow.Author.Tests.{leb-true, le-leb, lt-leb, ltb-true, ltb-false}
-use Rattle.diagram.specs.Pieces.{Pieces, last, cut, select, first, count, Each, Rising, Reduced}
+use Rattle.diagram.specs.Pieces.{Pieces, last, cut, select, count, Each, Rising, Reduced}
 use Rattle.diagram.specs.Ordered.{Run, holds, holders, childAt, runs}
-use Rattle.diagram.proofs.Piecewise.{select-left, select-right, rising-le, after-cut}
+use Rattle.diagram.proofs.Piecewise.{select-left, select-right, after-cut}
 use Rattle.diagram.proofs.Counting.{remove, length-remove, mem-remove, remove-mem}
 
 -- the test of a run
@@ -126,8 +126,12 @@ pub no-fewer : (b t : ℕ) (e : Pieces ℕ) → Reduced b t e → (xs : List Run
     → count e ≤ length xs
 no-fewer b t (last c) r xs cover one = let i = cover b (omega arith) r in omega (arith, length-remove (i .there))
 no-fewer b t (cut c k e) r xs cover one =
-    omega (arith, length-remove (i .there), no-fewer k t e (r .3) (remove (i .there)) (λ p h l. stays p h l (cover p (omega arith) l))
-    (λ y m p q yp yq h l h′ l′. sym (select-right c k e p h) ∙ one y (remove-mem (i .there) y m) p q yp yq (omega arith) l (omega arith) l′ ∙ select-right c k e q h′))
+    omega (
+      arith,
+      length-remove (i .there),
+      no-fewer k t e (r .3) (remove (i .there)) (λ p h l. stays p h l (cover p (omega arith) l))
+          (λ y m p q yp yq h l h′ l′. sym (select-right c k e p h) ∙ one y (remove-mem (i .there) y m) p q yp yq (omega arith) l (omega arith) l′ ∙ select-right c k e q h′),
+    )
   where
     i : Held xs b
     i = cover b (omega arith) (omega arith)

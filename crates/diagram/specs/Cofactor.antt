@@ -4,7 +4,7 @@ use Prim.Native.Nat.{ℕ}
 use lib.Dec.{eqb}
 use Rattle.ids.specs.Id.{sign, ref, under}
 use Rattle.diagram.specs.Pieces.{Pieces, last, cut}
-use Rattle.diagram.specs.Table.{Node, Table, at, Assignment}
+use Rattle.diagram.specs.Table.{Table, at, Assignment}
 
 unfoldable pub map : {A B : Type 0} → (A → B) → Pieces A → Pieces B
 map f (last a) = last (f a)

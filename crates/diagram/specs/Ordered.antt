@@ -6,7 +6,7 @@ use mathlib.Core.List.{List, [], _∷_, List·Memᴰ}
 use Prim.Native.Nat.{ℕ, zero, suc, _+_, _-_, _≤_, _<_}
 use lib.Dec.{leb, eqb}
 use lib.ListN.{length}
-use Rattle.ids.specs.Id.{sign, ref}
+use Rattle.ids.specs.Id.{ref}
 use Rattle.diagram.specs.Pieces.{Pieces, last, cut}
 use Rattle.diagram.specs.Table.{firstBoolean, variables, topOf, Node, Table, at, Assignment, signed}
 

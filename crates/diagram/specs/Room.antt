@@ -1,9 +1,9 @@
 -- Room: how many nodes and edges a table has, and whether it fits. Document 01, row 6 of "When the kernel is told no". Assumes nothing.
-use mathlib.Core.List.{List, [], _∷_}
+use mathlib.Core.List.{[], _∷_}
 use Prim.Native.Nat.{ℕ, _+_, _≤_, _<_}
 use lib.ListN.{length}
 use Rattle.diagram.specs.Pieces.{count}
-use Rattle.diagram.specs.Table.{Node, Table, at}
+use Rattle.diagram.specs.Table.{Table, at}
 
 -- "The 64 edges a node."
 abbrev pub mostEdges : ℕ

@@ -1,12 +1,12 @@
 -- When a table is sound, and when one continues another. Document 01, "A sound table", as far as it speaks of nodes: rooms, the
 -- sixty-four edges, packing, zeroed tails and the index belong to lent tables. Assumes nothing.
 use mathlib.Core.Path.{_≡_}
-use mathlib.Core.List.{List, [], _∷_}
+use mathlib.Core.List.{[], _∷_}
 use Prim.Native.Nat.{ℕ, suc, _≤_, _<_}
 use lib.ListN.{length}
 use Rattle.ids.specs.Id.{sign, ref}
 use Rattle.ids.specs.Index.{KnownTo}
-use Rattle.diagram.specs.Pieces.{Pieces, first, count, Each, Reduced}
+use Rattle.diagram.specs.Pieces.{first, count, Each, Reduced}
 use Rattle.diagram.specs.Table.{variables, topOf, Node, Table, at}
 
 -- An id of the table: a terminal or the id of one of its nodes.

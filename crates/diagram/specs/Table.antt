@@ -1,12 +1,12 @@
 -- Variables, nodes, tables, and the truth of an id. Document 01, "Readings and conditions". Assumes nothing.
-use mathlib.Core.Bool.{Bool, true, false, not, cond}
+use mathlib.Core.Bool.{Bool, true, not, cond}
 use mathlib.Core.List.{List, [], _∷_}
-use Prim.Native.Nat.{ℕ, zero, suc, _/_, _%_}
-use lib.Dec.{ltb, leb, eqb}
+use Prim.Native.Nat.{ℕ, zero, suc}
+use lib.Dec.{ltb, eqb}
 use lib.ListN.{length}
 use Rattle.ids.specs.Id.{sign, ref}
 use Rattle.ranges.specs.Line.{top}
-use Rattle.diagram.specs.Pieces.{Pieces, last, cut, select}
+use Rattle.diagram.specs.Pieces.{Pieces, last, select}
 
 -- "Variables are numbered 0 to 63, lower first in the order."
 abbrev pub variables : ℕ

@@ -1,6 +1,6 @@
 -- Laws of ids: what flipping the complement bit keeps and changes. Assumes nothing.
 use mathlib.Core.Path.{_≡_, refl}
-use Prim.Native.Nat.{ℕ, zero, suc, _+_, _-_, _*_, _/_, _%_, _<_}
+use Prim.Native.Nat.{ℕ, zero, suc, _+_, _-_}
 use native.Mathlib.Omega.{arith}
 use Rattle.ids.specs.Id.{idOf, sign, ref, flip, under}
 

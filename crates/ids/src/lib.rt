@@ -82,11 +82,7 @@ impl NodeId {
     pub fn negate(self, parent: NodeId) -> NodeId
         ensures { λ r. ⌜ r .0 ≡ under (sign (parent .0)) (self .0) ⌝ }
     {
-        if parent.0 % 2 == 0 {
-            self
-        } else {
-            self.not()
-        }
+        if parent.0 % 2 == 0 { self } else { self.not() }
     }
 
     pub fn is_true(self) -> bool

@@ -1,7 +1,7 @@
 -- The nearest place inside bounds that are not empty: it is inside, and no place inside is nearer. Assumes nothing.
-use mathlib.Core.Path.{_≡_, refl, sym, _∙_, ap}
+use mathlib.Core.Path.{_≡_, refl, sym, _∙_}
 use mathlib.Core.Bool.{Bool, true, false, cond, _&&_, false≢true}
-use Prim.Native.Nat.{ℕ, _+_, _-_, _≤_, _<_, min, max}
+use Prim.Native.Nat.{ℕ, _+_, _-_, _≤_, min, max}
 use native.Mathlib.Omega.{arith}
 use lib.Dec.{leb, ltb}
 use lib.IntN.{ℤ}
