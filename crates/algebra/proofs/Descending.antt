@@ -15,15 +15,27 @@ use Rattle.diagram.proofs.Piecewise.{each-select}
 use Rattle.diagram.proofs.Continuing.{continues-at, continues-value, continues-child}
 use Rattle.diagram.proofs.Cofactors.{edges-of, edges-rising, edge-child, value-edge, upd-other, continues-edges}
 use Rattle.algebra.specs.Making.{create-node}
-use Rattle.algebra.specs.Changing.{change-step, change}
+use Rattle.algebra.specs.Changing.{isBefore, change-step, change}
 use Rattle.algebra.proofs.Made.{Made, remean, weaken}
 use Rattle.algebra.proofs.Making.{created}
 use Rattle.algebra.proofs.Walking.{created-over}
 
+pub before-yes : (t : Table) (v id : ℕ) → isBefore t v id ≡ true → (at t (ref id)) .var < v
+unfolding isBefore
+before-yes t v id e = omega (arith, ltb-true ((at t (ref id)) .var) v e)
+
+pub before-no : (t : Table) (v id : ℕ) → isBefore t v id ≡ false → v ≤ (at t (ref id)) .var
+unfolding isBefore
+before-no t v id e = omega (arith, ltb-false ((at t (ref id)) .var) v e)
+
+pub continues-before : {t s : Table} → Continues t s → (v id : ℕ) → Known t id → isBefore s v id ≡ isBefore t v id
+unfolding isBefore
+continues-before g v id k = rw (continues-at g (ref id) k)
+
 -- the id that an id comes to when the variables before v are read
 unfoldable pub descend : ℕ → Table → ℕ → Assignment → ℕ → ℕ
 descend zero t v α id = id
-descend (suc n) t v α id = cond (ltb ((at t (ref id)) .var) v) (descend n t v α (select (edgesOf t ((at t (ref id)) .var) id) (α ((at t (ref id)) .var)))) id
+descend (suc n) t v α id = cond (isBefore t v id) (descend n t v α (select (edgesOf t ((at t (ref id)) .var) id) (α ((at t (ref id)) .var)))) id
 
 -- assignments that agree before v
 abbrev pub Before : ℕ → Assignment → Assignment → Type 0
@@ -33,7 +45,7 @@ Before v α β = (i : ℕ) → i < v → β i ≡ α i
 pub descend-child : (n : ℕ) (t : Table) → Sound t → (v : ℕ) → v < variables → (α : Assignment) (w id : ℕ) → Child t w id → v ≤ w + n → Child t v (descend n t v α id)
 unfolding descend
 descend-child zero t z v hv α w id k h = (k .0, omega (arith, k .1))
-descend-child (suc n) t z v hv α w id k h = go (ltb u v) refl (descend-child n t z v hv α (suc u) c)
+descend-child (suc n) t z v hv α w id k h = go (isBefore t v id) refl (descend-child n t z v hv α (suc u) c)
   where
     u : ℕ
     u = (at t (ref id)) .var
@@ -41,15 +53,15 @@ descend-child (suc n) t z v hv α w id k h = go (ltb u v) refl (descend-child n 
     c : ℕ
     c = select (edgesOf t u id) (α u)
 
-    go : (b : Bool) → ltb u v ≡ b → (Child t (suc u) c → v ≤ suc u + n → Child t v (descend n t v α c)) → Child t v (cond b (descend n t v α c) id)
-    go true e rec = rec (edge-child t z u id (omega (arith, ltb-true u v e)) (k .0, omega arith) (α u)) (omega (arith, k .1))
-    go false e rec = (k .0, ltb-false u v e)
+    go : (b : Bool) → isBefore t v id ≡ b → (Child t (suc u) c → v ≤ suc u + n → Child t v (descend n t v α c)) → Child t v (cond b (descend n t v α c) id)
+    go true e rec = rec (edge-child t z u id (omega (arith, before-yes t v id e)) (k .0, omega arith) (α u)) (omega (arith, k .1))
+    go false e rec = (k .0, before-no t v id e)
 
 -- says what the id says while those variables stay as they are,
 pub descend-value : (n : ℕ) (t : Table) → Sound t → (v : ℕ) → v < variables → (α β : Assignment) → Before v α β → (id : ℕ) → Known t id → value t β (descend n t v α id) ≡ value t β id
 unfolding descend
 descend-value zero t z v hv α β a id k = refl
-descend-value (suc n) t z v hv α β a id k = go (ltb u v) refl (descend-value n t z v hv α β a c)
+descend-value (suc n) t z v hv α β a id k = go (isBefore t v id) refl (descend-value n t z v hv α β a c)
   where
     u : ℕ
     u = (at t (ref id)) .var
@@ -57,17 +69,17 @@ descend-value (suc n) t z v hv α β a id k = go (ltb u v) refl (descend-value n
     c : ℕ
     c = select (edgesOf t u id) (α u)
 
-    go : (b : Bool) → ltb u v ≡ b → (Known t c → value t β (descend n t v α c) ≡ value t β c) → value t β (cond b (descend n t v α c) id) ≡ value t β id
+    go : (b : Bool) → isBefore t v id ≡ b → (Known t c → value t β (descend n t v α c) ≡ value t β c) → value t β (cond b (descend n t v α c) id) ≡ value t β id
     go true e rec =
-        let hu : u < variables = omega (arith, ltb-true u v e) in
-        rec (edge-child t z u id hu (k, omega arith) (α u) .0) ∙ ap (λ (p : ℕ). value t β (select (edgesOf t u id) p)) (sym (a u (ltb-true u v e))) ∙ sym (edges-of t z u id hu (k, omega arith) .value-is β)
+        let hu : u < variables = omega (arith, before-yes t v id e) in
+        rec (edge-child t z u id hu (k, omega arith) (α u) .0) ∙ ap (λ (p : ℕ). value t β (select (edgesOf t u id) p)) (sym (a u (before-yes t v id e))) ∙ sym (edges-of t z u id hu (k, omega arith) .value-is β)
     go false e rec = refl
 
 -- and is the same in a table that continues this one
 continues-descend : (n : ℕ) {t s : Table} → Sound t → Continues t s → (v : ℕ) → v < variables → (α : Assignment) (id : ℕ) → Known t id → descend n s v α id ≡ descend n t v α id
 unfolding descend
 continues-descend zero z g v hv α id k = refl
-continues-descend (suc n) {t} {s} z g v hv α id k = rw (continues-at g (ref id) k, continues-edges g u id k) (go (ltb u v) refl (continues-descend n z g v hv α c))
+continues-descend (suc n) {t} {s} z g v hv α id k = rw (continues-before g v id k, continues-at g (ref id) k, continues-edges g u id k) (go (isBefore t v id) refl (continues-descend n z g v hv α c))
   where
     u : ℕ
     u = (at t (ref id)) .var
@@ -75,8 +87,8 @@ continues-descend (suc n) {t} {s} z g v hv α id k = rw (continues-at g (ref id)
     c : ℕ
     c = select (edgesOf t u id) (α u)
 
-    go : (b : Bool) → ltb u v ≡ b → (Known t c → descend n s v α c ≡ descend n t v α c) → cond b (descend n s v α c) id ≡ cond b (descend n t v α c) id
-    go true e rec = rec (edge-child t z u id (omega (arith, ltb-true u v e)) (k, omega arith) (α u) .0)
+    go : (b : Bool) → isBefore t v id ≡ b → (Known t c → descend n s v α c ≡ descend n t v α c) → cond b (descend n s v α c) id ≡ cond b (descend n t v α c) id
+    go true e rec = rec (edge-child t z u id (omega (arith, before-yes t v id e)) (k, omega arith) (α u) .0)
     go false e rec = refl
 
 -- its edges at v, changed by g; at a position, what the old edges say there is what the id says with v there
@@ -122,7 +134,7 @@ module _ (v : ℕ) (hv : v < variables) (g : Pieces ℕ → Pieces ℕ) (ch : Ch
   pub changed : (n : ℕ) (t : Table) → Sound t → (w id : ℕ) → w ≤ v → Child t w id → v ≤ w + n → Made t w (means n t id) (change n g t v id)
   unfolding change change-step descend
   changed zero t z w id l k h = weaken t w v _ _ l (here-made t z id (k .0, omega (arith, k .1)))
-  changed (suc n) t z w id l k h = go (ltb u v) refl (λ s y i q. changed n s y (suc u) i q)
+  changed (suc n) t z w id l k h = go (isBefore t v id) refl (λ s y i q. changed n s y (suc u) i q)
     where
       u : ℕ
       u = (at t (ref id)) .var
@@ -130,12 +142,12 @@ module _ (v : ℕ) (hv : v < variables) (g : Pieces ℕ → Pieces ℕ) (ch : Ch
       f : Table → ℕ → Table × ℕ
       f s i = change n g s v i
 
-      go : (a : Bool) → ltb u v ≡ a → ((s : Table) → Sound s → (i : ℕ) → suc u ≤ v → Child s (suc u) i → v ≤ suc u + n → Made s (suc u) (means n s i) (f s i))
+      go : (a : Bool) → isBefore t v id ≡ a → ((s : Table) → Sound s → (i : ℕ) → suc u ≤ v → Child s (suc u) i → v ≤ suc u + n → Made s (suc u) (means n s i) (f s i))
           → Made t w (λ α. value t α (select (g (edgesOf t v (cond a (descend n t v α (select (edgesOf t u id) (α u))) id))) (α v))) (change-step a f g t u v id)
       go true x rec =
-          let lt : u < v = ltb-true u v x in
+          let lt : u < v = before-yes t v id x in
           let ku : Child t u id = (k .0, omega arith) in
           weaken t w u _ _ (k .1) (created-over t z f u (omega arith) (Child t (suc u)) (means n t)
           (λ s zs c i q. remean (rec s zs i lt (continues-child c (suc u) i q) (omega (arith, k .1))) (means-continues n z c (suc u) i q (omega (arith, k .1))))
           (edgesOf t u id) (edges-rising t z u id (omega arith) ku) (edges-of t z u id (omega arith) ku .kids) (not (isRange u)))
-      go false x rec = weaken t w v _ _ l (here-made t z id (k .0, ltb-false u v x))
+      go false x rec = weaken t w v _ _ l (here-made t z id (k .0, before-no t v id x))

@@ -10,5 +10,5 @@ pub mod Changed
 pub mod Emptied
 pub mod Exact
 pub mod Promises
-pub mod Cases
+pub mod Starred
 pub mod Shortcuts

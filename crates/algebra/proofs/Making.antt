@@ -10,7 +10,7 @@ use lib.ListN.{length}
 use borrow.Author.Tests.{eqb-true, eq-eqb}
 use Rattle.ids.specs.Id.{sign, ref, under}
 use Rattle.ids.proofs.Signs.{under-inj, ref-under, sign-under}
-use Rattle.diagram.specs.Pieces.{Pieces, last, cut, select, Each, Rising, Reduced}
+use Rattle.diagram.specs.Pieces.{Pieces, last, cut, select, first, Each, Rising, Reduced}
 use Rattle.diagram.specs.Table.{variables, topOf, Node, Table, at, Assignment, flipped, truth, value}
 use Rattle.diagram.specs.Cofactor.{map}
 use Rattle.diagram.specs.Sound.{Child, Extends, Sound, same, more}
@@ -19,7 +19,7 @@ use Rattle.diagram.proofs.Piecewise.{count-pos}
 use Rattle.diagram.proofs.Facts.{facts}
 use Rattle.diagram.proofs.Cofactors.{select-map, reduced-map, each-map, child-under}
 use Rattle.algebra.specs.Overlay.{merge}
-use Rattle.algebra.specs.Making.{sameEdges, sameNode, find, intern, settle, create-node}
+use Rattle.algebra.specs.Making.{sameEdges, sameNode, find, intern, firstSign, settle, create-node}
 use Rattle.algebra.proofs.Overlays.{reduced-merge, select-merge, each-merge}
 use Rattle.algebra.proofs.Made.{Reach, stay, go-by, Made, unchanged, remean}
 
@@ -82,11 +82,9 @@ pub record MadeNode (t : Table) (v : ℕ) (e : Pieces ℕ) (out : Table × ℕ) 
   pub made : Made t v (λ α. value t α (select e (α v))) out
   pub reach : (p : ℕ) → Reach (out .0) (ref (out .1)) (ref (select e p))
 
--- the node of merged edges that begin with c
-module _ (t : Table) (z : Sound t) (v : ℕ) (hv : v < variables) (c k : ℕ) (e : Pieces ℕ) (red : Reduced 0 (topOf v) (cut c k e)) (kids : Each (Child t (suc v)) (cut c k e)) where
-  abbrev sgn : ℕ
-  sgn = sign c
-
+-- the node of merged edges that begin with c, flipped by a sign under which c is plain
+module _ (t : Table) (z : Sound t) (v : ℕ) (hv : v < variables) (sgn c k : ℕ) (e : Pieces ℕ) (red : Reduced 0 (topOf v) (cut c k e)) (kids : Each (Child t (suc v)) (cut c k e))
+    (bit : sgn < 2) (plain : sign (under sgn c) ≡ 0) where
   abbrev node : Node
   node = record { var = v; edges = map (under sgn) (cut c k e) }
 
@@ -96,7 +94,7 @@ module _ (t : Table) (z : Sound t) (v : ℕ) (hv : v < variables) (c k : ℕ) (e
     known = hv;
     many = omega (arith, count-pos (map (under sgn) e));
     reduced = reduced-map (under sgn) (under-inj sgn) 0 (topOf v) (cut c k e) red;
-    plain = sign-under c sgn refl;
+    plain = plain;
     kids = each-map (under sgn) (Child t (suc v)) (Child t (suc v)) (child-under t (suc v) sgn) (cut c k e) kids;
     new = λ r h q. absent r h q;
   }
@@ -108,16 +106,16 @@ module _ (t : Table) (z : Sound t) (v : ℕ) (hv : v < variables) (c k : ℕ) (e
   -- a ref whose truth is that of the node's selected child
   meaning : (t′ : Table) (r : ℕ) (α : Assignment) → truth t′ α r ≡ value t α (select (node .edges) (α v)) → value t′ α (2 * r + sgn) ≡ value t α (select (cut c k e) (α v))
   meaning t′ r α h =
-      value-ref t′ α r sgn (omega arith) ∙ ap (flipped sgn) (h ∙ ap (value t α) (select-map (under sgn) (cut c k e) (α v)) ∙ value-under t α sgn (select (cut c k e) (α v)))
+      value-ref t′ α r sgn bit ∙ ap (flipped sgn) (h ∙ ap (value t α) (select-map (under sgn) (cut c k e) (α v)) ∙ value-under t α sgn (select (cut c k e) (α v)))
       ∙ flipped-flipped sgn (value t α (select (cut c k e) (α v)))
 
   -- a ref of the node reaches each child
   reaching : (t′ : Table) (i r : ℕ) → ref i ≡ suc r → at t′ (suc r) ≡ node → (p : ℕ) → Reach t′ (ref i) (ref (select (cut c k e) p))
   reaching t′ i r d a p = rw d (go-by {r = suc r} {s = ref (select (cut c k e) p)} p (omega arith) (rw (a, select-map (under sgn) (cut c k e) p, ref-under sgn (select (cut c k e) p)) stay))
 
-  settle-cut : MadeNode t v (cut c k e) (settle t v (cut c k e))
-  unfolding settle intern
-  settle-cut = go (find t node) refl
+  interned : MadeNode t v (cut c k e) (intern t node sgn)
+  unfolding intern
+  interned = go (find t node) refl
     where
       go : (r : ℕ) → find t node ≡ r → MadeNode t v (cut c k e) (elim r [ zero ↦ (node ∷ t, 2 * suc (length t) + sgn) | suc q ↦ (t, 2 * suc q + sgn) ])
       go zero q =
@@ -143,10 +141,19 @@ module _ (t : Table) (z : Sound t) (v : ℕ) (hv : v < variables) (c k : ℕ) (e
             reach = reaching t (2 * suc r + sgn) r d a;
           }
 
+-- under the sign of the first child that child is plain
+first-bit : (e : Pieces ℕ) → firstSign e < 2
+unfolding firstSign
+first-bit e = omega arith
+
+first-plain : (e : Pieces ℕ) → sign (under (firstSign e) (first e)) ≡ 0
+unfolding firstSign
+first-plain e = sign-under (first e) (sign (first e)) refl
+
 settled : (t : Table) → Sound t → (v : ℕ) → v < variables → (e : Pieces ℕ) → Reduced 0 (topOf v) e → Each (Child t (suc v)) e → MadeNode t v e (settle t v e)
 unfolding settle
 settled t z v hv (last c) red k = record { made = unchanged t z v c (k .0, omega arith) (λ α. value t α c) (λ α. refl); reach = λ p. stay }
-settled t z v hv (cut c k e) red kids = settle-cut t z v hv c k e red kids
+settled t z v hv (cut c k e) red kids = interned t z v hv (firstSign (cut c k e)) c k e red kids (first-bit (cut c k e)) (first-plain (cut c k e))
 
 -- node making from any edges whose cuts rise
 pub created : (t : Table) → Sound t → (v : ℕ) → v < variables → (e : Pieces ℕ) → Rising 0 (topOf v) e → Each (Child t (suc v)) e → MadeNode t v e (create-node t v e)

@@ -3,8 +3,9 @@ use mathlib.Core.Path.{_≡_, refl, sym, _∙_, ap}
 use mathlib.Core.Bool.{Bool, true, false, cond}
 use Prim.Native.Nat.{ℕ, _≤_, _<_}
 use native.Mathlib.Omega.{arith}
-use lib.Dec.{ltb, leb, eqb}
-use borrow.Author.Tests.{ltb-true, ltb-false, leb-true, leb-false, eqb-true, eqb-false}
+use native.Mathlib.Decide.{ℕ-discrete}
+use lib.Dec.{ltb, leb}
+use borrow.Author.Tests.{ltb-true, ltb-false, leb-true, leb-false, eq-eqb, ne-eqb}
 use Rattle.diagram.specs.Pieces.{Pieces, last, cut, select, first, Each, Rising, Reduced}
 use Rattle.diagram.proofs.Piecewise.{select-left, select-right, select-before, reduced-rising, reduced-down}
 use Rattle.algebra.specs.Overlay.{below, beside, above, overlay, join, merge}
@@ -119,32 +120,37 @@ module _ {A B : Type 0} where
   each-overlay P Q (cut a k e) f h i =
       each-below a (λ x. P (x .0) × Q (x .1)) Q (λ b q. (h .0, q)) k f (overlay e (above k f)) i (each-overlay P Q e (above k f) (h .1) (each-above Q k f i))
 
--- merging
-select-join : (c k t : ℕ) (e : Pieces ℕ) (p : ℕ) → Rising k t e → select (join c k e) p ≡ select (cut c k e) p
+-- merging: a value joins a neighbour that is like it, and no other
+join-same : (c k : ℕ) (e : Pieces ℕ) → c ≡ first e → join c k e ≡ e
 unfolding join
-select-join c k t e p h = go (eqb c (first e)) refl (ltb p k) refl
+join-same c k e q = rw (eq-eqb c (first e) q)
+
+join-other : (c k : ℕ) (e : Pieces ℕ) → (c ≡ first e → ⊥) → join c k e ≡ cut c k e
+unfolding join
+join-other c k e n = rw (ne-eqb c (first e) n)
+
+select-join : (c k t : ℕ) (e : Pieces ℕ) (p : ℕ) → Rising k t e → select (join c k e) p ≡ select (cut c k e) p
+select-join c k t e p h = go (ℕ-discrete c (first e)) (ltb p k) refl
   where
-    go : (q : Bool) → eqb c (first e) ≡ q → (s : Bool) → ltb p k ≡ s → select (cond q e (cut c k e)) p ≡ cond s c (select e p)
-    go true x true y = select-before k t e p h (omega (arith, ltb-true p k y)) ∙ sym (eqb-true c (first e) x)
-    go true x false y = refl
-    go false x true y = select-left c k e p (ltb-true p k y)
-    go false x false y = select-right c k e p (ltb-false p k y)
+    go : Dec (c ≡ first e) → (s : Bool) → ltb p k ≡ s → select (join c k e) p ≡ cond s c (select e p)
+    go (yes q) true y = rw (join-same c k e q) (select-before k t e p h (omega (arith, ltb-true p k y)) ∙ sym q)
+    go (yes q) false y = rw (join-same c k e q)
+    go (no n) true y = rw (join-other c k e n) (select-left c k e p (ltb-true p k y))
+    go (no n) false y = rw (join-other c k e n) (select-right c k e p (ltb-false p k y))
 
 reduced-join : (b t c k : ℕ) (e : Pieces ℕ) → b < k → k ≤ t → Reduced k t e → Reduced b t (join c k e)
-unfolding join
-reduced-join b t c k e h i j = go (eqb c (first e)) refl
+reduced-join b t c k e h i j = go (ℕ-discrete c (first e))
   where
-    go : (q : Bool) → eqb c (first e) ≡ q → Reduced b t (cond q e (cut c k e))
-    go true x = reduced-down b k t e (omega arith) j
-    go false x = (h, i, eqb-false c (first e) x, j)
+    go : Dec (c ≡ first e) → Reduced b t (join c k e)
+    go (yes q) = rw (join-same c k e q) (reduced-down b k t e (omega arith) j)
+    go (no n) = rw (join-other c k e n) (h, i, n, j)
 
 each-join : (P : ℕ → Type 0) (c k : ℕ) (e : Pieces ℕ) → P c → Each P e → Each P (join c k e)
-unfolding join
-each-join P c k e h i = go (eqb c (first e))
+each-join P c k e h i = go (ℕ-discrete c (first e))
   where
-    go : (q : Bool) → Each P (cond q e (cut c k e))
-    go true = i
-    go false = (h, i)
+    go : Dec (c ≡ first e) → Each P (join c k e)
+    go (yes q) = rw (join-same c k e q) i
+    go (no n) = rw (join-other c k e n) (h, i)
 
 -- merged edges have no two neighbours alike, and select what was selected
 pub reduced-merge : (b t : ℕ) (e : Pieces ℕ) → Rising b t e → Reduced b t (merge e)

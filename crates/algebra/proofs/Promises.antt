@@ -1,5 +1,5 @@
 -- What a reader of the demands looks for of the operations: theorems 4, 5 and 6. Theorems 1, 2, 3 and 7 are in the crate diagram, and
--- 8 in Cases. Readings, bounds and comparisons are document 01's. Assumes nothing.
+-- 8 in Starred. Readings, bounds and comparisons are document 01's. Assumes nothing.
 use mathlib.Core.Path.{_≡_, refl, sym, _∙_, ap}
 use mathlib.Core.Bool.{Bool, true, false, cond, _&&_, _||_, and-false, false≢true}
 use mathlib.Core.Logic.{_↔_, _⊎_}

@@ -15,6 +15,10 @@ use Rattle.algebra.specs.Making.{create-node}
 use Rattle.algebra.specs.Conditions.{between}
 use Rattle.algebra.specs.Conjunction.{walkIn, create-over}
 
+-- Whether an id's node tests a variable before v.
+unfoldable pub isBefore : Table → ℕ → ℕ → Bool
+isBefore t v id = ltb ((at t (ref id)) .var) v
+
 -- Down from a node of an earlier variable u to each child, "low then high in steps 7 to 9", ranges left to right; else g changes
 -- the edges at v. No node of a later variable is passed, so that none of v is made below one.
 unfoldable pub change-step : Bool → (Table → ℕ → Table × ℕ) → (Pieces ℕ → Pieces ℕ) → Table → ℕ → ℕ → ℕ → Table × ℕ
@@ -24,7 +28,7 @@ change-step false f g t u v id = create-node t v (g (edgesOf t v id))
 -- "With the variables left to the last as the falling number": n is at least the variables before v that are ahead.
 unfoldable pub change : ℕ → (Pieces ℕ → Pieces ℕ) → Table → ℕ → ℕ → Table × ℕ
 change zero g t v id = create-node t v (g (edgesOf t v id))
-change (suc n) g t v id = change-step (ltb ((at t (ref id)) .var) v) (λ s c. change n g s v c) g t ((at t (ref id)) .var) v id
+change (suc n) g t v id = change-step (isBefore t v id) (λ s c. change n g s v c) g t ((at t (ref id)) .var) v id
 
 -- Restriction: the edge at one position, for all.
 abbrev pub fixed : ℕ → Pieces ℕ → Pieces ℕ

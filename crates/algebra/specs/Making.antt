@@ -5,7 +5,7 @@ use Prim.Native.Nat.{ℕ, zero, suc, _+_, _*_}
 use lib.Dec.{eqb}
 use lib.ListN.{length}
 use Rattle.ids.specs.Id.{sign, under}
-use Rattle.diagram.specs.Pieces.{Pieces, last, cut}
+use Rattle.diagram.specs.Pieces.{Pieces, last, cut, first}
 use Rattle.diagram.specs.Table.{Node, Table}
 use Rattle.diagram.specs.Cofactor.{map}
 use Rattle.algebra.specs.Overlay.{merge}
@@ -28,11 +28,15 @@ find (x ∷ t) nd = cond (sameNode x nd) (suc (length t)) (find t nd)
 unfoldable pub intern : Table → Node → ℕ → Table × ℕ
 intern t nd s = elim (find t nd) [ zero ↦ (nd ∷ t, 2 * suc (length t) + s) | suc r ↦ (t, 2 * suc r + s) ]
 
--- "Then flip if the first child is complemented, drop the node if all children agree": of merged edges, all agree exactly when one is left.
+-- "Then flip if the first child is complemented": the sign under which the first child is plain,
+unfoldable pub firstSign : Pieces ℕ → ℕ
+firstSign e = sign (first e)
+
+-- "drop the node if all children agree": of merged edges, all agree exactly when one is left.
 unfoldable pub settle : Table → ℕ → Pieces ℕ → Table × ℕ
 settle t v (last c) = (t, c)
 settle t v (cut c k e) =
-    let s = sign c in
+    let s = firstSign (cut c k e) in
     intern t (record { var = v; edges = map (under s) (cut c k e) }) s
 
 -- "Neighbouring edges with equal children are merged first."

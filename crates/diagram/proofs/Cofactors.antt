@@ -3,6 +3,7 @@ use mathlib.Core.Path.{_≡_, refl, sym, _∙_, ap}
 use mathlib.Core.Bool.{Bool, true, false, cond}
 use Prim.Native.Nat.{ℕ, suc, _≤_, _<_}
 use native.Mathlib.Omega.{arith}
+use native.Mathlib.Decide.{ℕ-discrete}
 use lib.Dec.{ltb, eqb}
 use borrow.Author.Tests.{eqb-true, eqb-false, eq-eqb, ne-eqb}
 use Rattle.ids.specs.Id.{sign, ref, under}
@@ -91,24 +92,30 @@ pub record Kids (t : Table) (v id : ℕ) (e : Pieces ℕ) : Type 0 where
   pub kids : Each (Child t (suc v)) e
   pub value-is : (α : Assignment) → value t α id ≡ value t α (select e (α v))
 
+-- they are its own, each with the sign of the id, at the variable that its node tests, and else the id itself
+pub edge-own : (t : Table) (v id : ℕ) → (at t (ref id)) .var ≡ v → edgesOf t v id ≡ map (under (sign id)) ((at t (ref id)) .edges)
+unfolding edgesOf
+edge-own t v id e = rw (eq-eqb ((at t (ref id)) .var) v e)
+
+pub edge-other : (t : Table) (v id : ℕ) → ((at t (ref id)) .var ≡ v → ⊥) → edgesOf t v id ≡ last id
+unfolding edgesOf
+edge-other t v id n = rw (ne-eqb ((at t (ref id)) .var) v n)
+
 pub edges-of : (t : Table) → Sound t → (v id : ℕ) → v < variables → Child t v id → Kids t v id (edgesOf t v id)
-unfolding edgesOf value
-edges-of t z v id hv k = go (eqb ((at t (ref id)) .var) v) refl
+unfolding value
+edges-of t z v id hv k = go (ℕ-discrete ((at t (ref id)) .var) v)
   where
-    go : (b : Bool) → eqb ((at t (ref id)) .var) v ≡ b → Kids t v id (cond b (map (under (sign id)) ((at t (ref id)) .edges)) (last id))
-    go true q =
+    go : Dec ((at t (ref id)) .var ≡ v) → Kids t v id (edgesOf t v id)
+    go (yes y) =
         let s = sign id in
         let e = (at t (ref id)) .edges in
-        let y : (at t (ref id)) .var ≡ v = eqb-true ((at t (ref id)) .var) v q in
         let f = facts t z (ref id) (is-node t (ref id) (omega arith)) (k .0) in
-        record {
+        rw (edge-own t v id y) (record {
           reduced = reduced-map (under s) (under-inj s) 0 (topOf v) e (rw y at (f .reduced));
           kids = each-map (under s) (Child t (suc v)) (Child t (suc v)) (child-under t (suc v) s) e (rw y at (f .kids));
           value-is = λ α. ap (flipped s) (rw y at (f .truth-is α)) ∙ sym (value-under t α s (select e (α v))) ∙ sym (ap (value t α) (select-map (under s) e (α v)));
-        }
-    go false q =
-        let n : (at t (ref id)) .var ≡ v → ⊥ = eqb-false ((at t (ref id)) .var) v q in
-        record { reduced = omega arith; kids = (k .0, omega arith); value-is = λ α. refl }
+        })
+    go (no n) = rw (edge-other t v id n) (record { reduced = omega arith; kids = (k .0, omega arith); value-is = λ α. refl })
 
 module _ (t : Table) (z : Sound t) (v id : ℕ) (hv : v < variables) (k : Child t v id) where
   pub edges-rising : Rising 0 (topOf v) (edgesOf t v id)
@@ -127,11 +134,6 @@ module _ (t : Table) (z : Sound t) (v id : ℕ) (hv : v < variables) (k : Child 
 pub continues-edges : {t s : Table} → Continues t s → (v id : ℕ) → Known t id → edgesOf s v id ≡ edgesOf t v id
 unfolding edgesOf
 continues-edges g v id h = rw (continues-at g (ref id) h)
-
--- an id's own children, at the variable that its node tests
-pub edge-own : (t : Table) (v id : ℕ) → (at t (ref id)) .var ≡ v → edgesOf t v id ≡ map (under (sign id)) ((at t (ref id)) .edges)
-unfolding edgesOf
-edge-own t v id e = rw (eq-eqb ((at t (ref id)) .var) v e)
 
 pub select-own : (t : Table) (v id : ℕ) → (at t (ref id)) .var ≡ v → (p : ℕ) → select (edgesOf t v id) p ≡ under (sign id) (select ((at t (ref id)) .edges) p)
 select-own t v id e p = ap (λ (x : Pieces ℕ). select x p) (edge-own t v id e) ∙ select-map (under (sign id)) ((at t (ref id)) .edges) p

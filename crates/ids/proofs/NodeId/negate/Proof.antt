@@ -1,5 +1,6 @@
 -- `NodeId::negate` flips under a complemented parent. Assumes nothing.
 use mathlib.Core.Path.{sym, _∙_}
+use native.Mathlib.Omega.{arith}
 use borrow.Author.Needs.{needs}
 use Rattle.ids.proofs.Signs.{under-even, under-odd}
 use Rattle.ids.proofs.NodeId.negate.Statement.{statement}
@@ -9,10 +10,10 @@ not-requires : tie.Need-not-requires
 not-requires c κs = search needs
 
 returns : tie.Need-returns
-returns c = sym (under-even (c .before .before .args .parent .0) (c .before .before .args .self .0) (c .if1 .taken))
+returns c = sym (under-even (c .before .before .args .parent .0) (c .before .before .args .self .0) (omega arith))
 
 returns-2 : tie.Need-returns-2
-returns-2 c = c .not .ensures ∙ sym (under-odd (c .before .before .before .args .parent .0) (c .before .before .before .args .self .0) (c .before .if1 .left))
+returns-2 c = c .not .ensures ∙ sym (under-odd (c .before .before .before .args .parent .0) (c .before .before .before .args .self .0) (omega arith))
 
 pub negate-spec : {M : Type 1} → statement M
 negate-spec = tie.close (tie.spec not-requires returns returns-2)

@@ -4,12 +4,12 @@ use lib.Dec.{T}
 use Rattle.diagram.specs.Table.{at, truth, value}
 use Rattle.diagram.specs.Cofactor.{map, edgesOf}
 use Rattle.algebra.specs.Overlay.{below, beside, above, overlay, join, merge}
-use Rattle.algebra.specs.Making.{find, intern, settle}
+use Rattle.algebra.specs.Making.{find, intern, firstSign, settle}
 use Rattle.algebra.specs.Conditions.{upTo, between, from-range, comparison, from-bool}
 use Rattle.algebra.specs.Conjunction.{walk, walkBack, walkIn, opening, conj-node, conj-step, conj, or}
 use Rattle.algebra.specs.Disjointness.{every, disjoint-step, disjoint}
 use Rattle.algebra.specs.Cases.{hold, starred}
 
 pub starred-cases-hold : T (hold [] starred)
-unfolding at truth value map edgesOf below beside above overlay join merge find intern settle upTo between from-range comparison from-bool walk walkBack walkIn opening conj-node conj-step conj or every disjoint-step disjoint hold starred
+unfolding at truth value map edgesOf below beside above overlay join merge find intern firstSign settle upTo between from-range comparison from-bool walk walkBack walkIn opening conj-node conj-step conj or every disjoint-step disjoint hold starred
 starred-cases-hold = tt
