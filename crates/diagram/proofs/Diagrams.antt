@@ -168,6 +168,11 @@ module _ (d : Diagram) (o : Ordered d) where
         ap (signed id) (follow-node (upd α v p) (upd-within α v p w tp) (ref id) h l ∙ ap (λ (q : ℕ). tells d (upd α v p) (childAt (runsOf d (ref id)) q)) (upd-same α v p))
         ∙ sym (tells-under (upd α v p) (sign id) c) ∙ tells-agree (suc v) (upd α v p) α w (upd-later α v p) (kid id p) kid-later
 
+  -- an id of a node says what its child at the position of its variable says, so what is told needs no count of steps
+  pub tells-node : (α : Assignment) → Within α → (id : ℕ) → 0 < ref id → ref id ≤ d .size → tells d α id ≡ tells d α (kid id (α (varOf d (ref id))))
+  unfolding tells
+  tells-node α w id h l = ap (signed id) (follow-node α w (ref id) h l) ∙ sym (tells-under α (sign id) (childAt (runsOf d (ref id)) (α (varOf d (ref id)))))
+
 -- a sound table as a diagram
 pub var-of : (t : Table) (r : ℕ) → varOf (diagramOf t) r ≡ (at t r) .var
 var-of t zero = sym (ap (λ (m : Node). m .var) (at-end t))

@@ -2,19 +2,23 @@
 -- Readings are document 01's: whole-number places within the end places, and yes-or-no values. Assumes nothing.
 use mathlib.Core.Path.{_≡_, refl, ap, fun-ext}
 use mathlib.Core.Bool.{Bool, true, false, not, cond, false≢true}
+use mathlib.Core.List.{List·Memᴰ}
 use mathlib.Core.Logic.{_↔_}
 use Prim.Native.Nat.{ℕ, zero, suc, _≤_, _<_}
 use native.Mathlib.Omega.{arith}
-use Rattle.ids.specs.Id.{sign, ref, flip}
-use Rattle.diagram.specs.Table.{isRange, Table, flipped, value}
+use lib.ListN.{length}
+use borrow.Author.Tests.{le-ltb}
+use Rattle.ids.specs.Id.{TRUE, FALSE, sign, ref, flip}
+use Rattle.diagram.specs.Pieces.{Pieces, last, cut, count, Reduced}
+use Rattle.diagram.specs.Table.{firstBoolean, isRange, Table, at, Assignment, flipped, value}
 use Rattle.diagram.specs.Sound.{Known, Sound, Continues}
-use Rattle.diagram.specs.Reading.{Reading, positions, says, lowestReading}
-use Rattle.diagram.specs.Ordered.{Diagram, Ordered, tells, nodeCount, edgeCount, diagramOf}
+use Rattle.diagram.specs.Reading.{Reading, positions, says, lowestReading, Within}
+use Rattle.diagram.specs.Ordered.{Diagram, varOf, Ordered, follow, tells, Path, reached, nodeCount, edgeCount, diagramOf}
 use Rattle.diagram.proofs.Lookup.{value-flip}
-use Rattle.diagram.proofs.Facts.{origin}
+use Rattle.diagram.proofs.Facts.{Facts, facts, origin}
 use Rattle.diagram.proofs.Continuing.{continues-value}
 use Rattle.diagram.proofs.Apart.{one-id, value-origin}
-use Rattle.diagram.proofs.Diagrams.{sound-ordered, tells-value}
+use Rattle.diagram.proofs.Diagrams.{reached-path, path-reached, kid, tells-node, sound-ordered, tells-value}
 use Rattle.diagram.proofs.Fewest.{fewest}
 use Rattle.diagram.proofs.Readings.{positions-within, under-assignments}
 
@@ -38,6 +42,29 @@ no-smaller-diagram t z a ka d o c kc h = fewest t z d o a c ka kc (under-assignm
 -- and what the id reaches is itself such a diagram.
 pub table-is-a-diagram : (t : Table) → Sound t → Ordered (diagramOf t) × ((ρ : Reading) (id : ℕ) → Known t id → tells (diagramOf t) (positions ρ) id ≡ says t ρ id)
 table-is-a-diagram t z = (sound-ordered t z, λ ρ id k. tells-value t z (positions ρ) (positions-within ρ) id k)
+
+-- The definitions of what a diagram says and reaches count steps; these laws do not. A terminal says yes or no, and a node's id what
+-- its child at the position of its variable says, negated if the id is complemented.
+pub diagram-says : (d : Diagram) (o : Ordered d) (α : Assignment) → Within α
+    → (tells d α TRUE ≡ true) × (tells d α FALSE ≡ false) × ((id : ℕ) → 0 < ref id → ref id ≤ d .size → tells d α id ≡ tells d α (kid d o id (α (varOf d (ref id)))))
+unfolding tells follow
+diagram-says d o α w = (refl, refl, tells-node d o α w)
+
+-- The nodes that are counted are those to which a path leads.
+pub counted-when-reached : (d : Diagram) → Ordered d → (id : ℕ) → ref id ≤ d .size → (r : ℕ) → List·Memᴰ r (reached d id) ↔ ((0 < r) × (r ≤ d .size) × Path d (ref id) r)
+counted-when-reached d o id k r = (reached-path d o id r, λ x. path-reached d o id r k (x .0) (x .1) (x .2))
+
+-- A boolean node of a sound table is document 01's: two edges, high first, and they differ.
+pub boolean-node : (t : Table) → Sound t → (r : ℕ) → 0 < r → r ≤ length t → firstBoolean ≤ (at t r) .var → (high : ℕ) × (low : ℕ) × ((at t r) .edges ≡ cut high 1 (last low)) × (high ≡ low → ⊥)
+boolean-node t z r h l b = go ((at t r) .edges) (f .many) (rw (le-ltb ((at t r) .var) firstBoolean b) at (f .reduced))
+  where
+    f : Facts t r (at t r)
+    f = facts t z r h l
+
+    go : (e : Pieces ℕ) → 2 ≤ count e → Reduced 0 1 e → (high : ℕ) × (low : ℕ) × (e ≡ cut high 1 (last low)) × (high ≡ low → ⊥)
+    go (last c) n x = absurd (omega arith)
+    go (cut c k (last d)) n x = let q : k ≡ 1 = omega arith in (c, d, ap (λ (j : ℕ). cut c j (last d)) q, x .2)
+    go (cut c k (cut d j e)) n x = absurd (omega (arith, x .1, x .3 .0, x .3 .1))
 
 -- Theorem 7, the complement bit. An id is even exactly when it is true at the lowest place of every range variable with every boolean yes.
 lowest-origin : positions lowestReading ≡ origin

@@ -23,7 +23,8 @@ pub record Extends (t : Table) (nd : Node) : Type 0 where
   -- "a range node has 2 to 64 edges ..; a boolean node has two edges, high first, and they differ": at least two here; a boolean
   -- node has two positions, so no more than two
   pub many : 2 ≤ count (nd .edges)
-  -- "cuts strictly rising and all within -2^32 to 2^32-1, the last edge open to the right, neighbouring children different"
+  -- "cuts strictly rising and all within -2^32 to 2^32-1, the last edge open to the right, neighbouring children different": the
+  -- cuts are the positions from 1 to the top
   pub reduced : Reduced 0 (topOf (nd .var)) (nd .edges)
   -- "the first child is never complemented"
   pub plain : sign (first (nd .edges)) ≡ 0

@@ -2,12 +2,13 @@
 use mathlib.Core.Path.{_≡_, refl, sym, ap, _∙_}
 use mathlib.Core.Bool.{Bool, true, false, not, cond, _&&_}
 use Prim.Native.Nat.{ℕ, zero, suc, _+_, _-_, _≤_, _<_, _^_}
+use mathlib.Core.Logic.{_↔_}
 use native.Mathlib.Omega.{arith}
 use lib.Dec.{leb, ltb, leb→le, le→leb, leb·zero}
 use lib.IntN.{ℤ, pos, negsuc, _+ℤ_, _-ℤ_, sucℤ, predℤ, +ℤ-one, -ℤ-one}
-use lib.Signed.{leZ, ltZ}
+use lib.Signed.{leZ, ltZ, leZ-yes}
 use borrow.Author.Tests.{leb-true, leb-false, le-leb, lt-leb, lt-ltb, le-ltb}
-use Rattle.ranges.specs.Line.{Key, Place, exactly, position, placeAt, top}
+use Rattle.ranges.specs.Line.{Key, Place, Cut, exactly, position, placeAt, top}
 use Rattle.ranges.specs.Bounding.{Keyed, above, below, inside, firstPlace, lastPlace, empty}
 use Rattle.ranges.specs.Comparing.{compares, lowerOf, upperOf, outsideOf}
 use Rattle.ranges.specs.declared.bounds.Bound.{Bound}
@@ -161,3 +162,8 @@ keyed-upper LessThan key h = h
 keyed-upper LessEqual key h = h
 keyed-upper GreaterThan key h = tt
 keyed-upper GreaterEqual key h = tt
+
+-- The cuts are the places above the lowest.
+pub cut-above : (k : ℤ) → Place k → Cut k ↔ (0 < position k)
+cut-above (pos n) h = (λ c. omega arith, λ l. (leZ-yes tt, h .1))
+cut-above (negsuc n) h = (λ c. omega (arith, leb→le), λ l. (record { le = le→leb n (2 ^ 32 - 1) (omega arith) }, h .1))
