@@ -16,7 +16,7 @@ use Rattle.diagram.proofs.Lookup.{at-end, value-true, value-false, value-flip}
 use Rattle.diagram.proofs.Facts.{facts, var-most}
 use Rattle.diagram.proofs.Continuing.{continues-value, continues-child}
 use Rattle.diagram.proofs.Cofactors.{edges-of, edges-rising}
-use Rattle.diagram.proofs.Diagrams.{either-true}
+use Rattle.diagram.proofs.Either.{either-true}
 use Rattle.algebra.specs.Overlay.{overlay}
 use Rattle.algebra.specs.Conjunction.{walkIn, create-over, pick, opening, conj-node, conj-step, conj, and, or}
 use Rattle.algebra.proofs.Overlays.{select-overlay, rising-overlay, each-overlay}

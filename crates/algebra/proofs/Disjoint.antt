@@ -17,7 +17,7 @@ use Rattle.diagram.proofs.Piecewise.{select-left, select-right}
 use Rattle.diagram.proofs.Facts.{facts, var-most}
 use Rattle.diagram.proofs.Cofactors.{edges-of, edges-rising, edge-child, value-edge, upd-within}
 use Rattle.diagram.proofs.Apart.{apart}
-use Rattle.diagram.proofs.Diagrams.{either-true}
+use Rattle.diagram.proofs.Either.{either-true, neither-true}
 use Rattle.algebra.specs.Overlay.{overlay}
 use Rattle.algebra.specs.Disjointness.{every, disjoint-step, disjoint, is-disjoint}
 use Rattle.algebra.proofs.Overlays.{select-overlay, rising-overlay}
@@ -82,10 +82,6 @@ holds-somewhere t z x h n =
     is-true : (b : Bool) → (b ≡ false → ⊥) → b ≡ true
     is-true true h = refl
     is-true false h = absurd (h refl)
-
-neither : (a b : Bool) → (a || b) ≡ false → (a ≡ false) × (b ≡ false)
-neither true b h = absurd (true≢false h)
-neither false b h = (refl, h)
 
 -- one is TRUE, or they are equal
 agreeing : (t : Table) → Sound t → (x y : ℕ) → Known t x → Known t y → (x ≡ 1 → ⊥) → (y ≡ 1 → ⊥) → (eqb x 0 || (eqb y 0 || eqb x y)) ≡ true → Both t x y
@@ -153,12 +149,12 @@ answered (suc n) t z u x y kx ky h = go (eqb x 1 || (eqb y 1 || eqb (flip x) y))
         → ((c d : ℕ) → Child t (suc v) c → Child t (suc v) d → variables < suc v + n → Answer t c d (disjoint n t c d)) → Answer t x y (disjoint-step a b f pairs)
     go true ea b eb rec = never (λ α. opposed t α x y ea)
     go false ea true eb rec =
-        let i = neither (eqb x 1) (eqb y 1 || eqb (flip x) y) ea in
-        let j = neither (eqb y 1) (eqb (flip x) y) (i .1) in
+        let i = neither-true (eqb x 1) (eqb y 1 || eqb (flip x) y) ea in
+        let j = neither-true (eqb y 1) (eqb (flip x) y) (i .1) in
         meet (agreeing t z x y (kx .0) (ky .0) (eqb-false x 1 (i .0)) (eqb-false y 1 (j .0)) eb)
     go false ea false eb rec =
-        let i = neither (eqb x 1) (eqb y 1 || eqb (flip x) y) ea in
-        let j = neither (eqb x 0) (eqb y 0 || eqb x y) eb in
+        let i = neither-true (eqb x 1) (eqb y 1 || eqb (flip x) y) ea in
+        let j = neither-true (eqb x 0) (eqb y 0 || eqb x y) eb in
         let fx = facts t z (ref x) (omega (arith, eqb-false x 1 (i .0), eqb-false x 0 (j .0))) (kx .0) in
         every-answer t z v x y (omega (arith, fx .known)) (kx .0, omega arith) (ky .0, omega arith) (disjoint n t) (λ c d k l. rec c d k l (omega (arith, h, kx .1, ky .1))) (every f pairs) refl
 

@@ -10,17 +10,16 @@ use native.Mathlib.Decide.{decLt}
 use lib.ListN.{length}
 use Rattle.ids.specs.Id.{ref}
 use Rattle.diagram.specs.Pieces.{count}
-use Rattle.diagram.specs.Table.{topOf, Node, Table, at, value}
+use Rattle.diagram.specs.Table.{Node, Table, at, value}
 use Rattle.diagram.specs.Sound.{Known, Sound, Continues, same}
 use Rattle.diagram.specs.Reading.{Reading, positions, says}
 use Rattle.diagram.specs.Room.{width, edgeTotal, Fits}
-use Rattle.diagram.specs.Ordered.{Ordered, runsOf, down, sum, diagramOf}
+use Rattle.diagram.specs.Ordered.{Ordered, down, sum, diagramOf}
 use Rattle.diagram.proofs.Lookup.{at-new, at-old}
 use Rattle.diagram.proofs.Facts.{facts}
 use Rattle.diagram.proofs.Continuing.{continues-length, continues-at, continues-value, continues-same}
 use Rattle.diagram.proofs.Counting.{falling-down, mem-down, down-mem, Partner, weigh, sum-down}
-use Rattle.diagram.proofs.Runs.{length-runs}
-use Rattle.diagram.proofs.Diagrams.{sound-ordered, tells-value}
+use Rattle.diagram.proofs.Diagrams.{width-runs, sound-ordered, tells-value}
 use Rattle.diagram.proofs.Fewest.{is-vertex, IsNode, twin, Pair, pair-inj, lighter}
 use Rattle.diagram.proofs.Apart.{one-id}
 use Rattle.diagram.proofs.Readings.{under-assignments}
@@ -40,10 +39,6 @@ edges-sum (nd ∷ t) =
       edges-sum t,
       sum-same (width (nd ∷ t)) (width t) (length t) (λ r l. ap (λ (n : Node). count (n .edges)) (at-old nd t r l)),
     )
-
-width-runs : (t : Table) (r : ℕ) → 0 < r → length (runsOf (diagramOf t) r) ≡ width t r
-width-runs t zero h = absurd (omega arith)
-width-runs t (suc n) h = length-runs 0 (topOf ((at t (suc n)) .var)) ((at t (suc n)) .edges)
 
 module _ (t : Table) (m : Reading → Bool) (out : Table × ℕ) (x : Answers t m out) (s : Table) (zs : Sound s) (g : Continues t s) (i : ℕ) (hi : Known s i)
     (h : (ρ : Reading) → says s ρ i ≡ m ρ) where

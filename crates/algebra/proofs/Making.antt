@@ -1,6 +1,6 @@
 -- Node making: the answer says what the edges say. Assumes nothing.
 use mathlib.Core.Path.{_≡_, refl, sym, _∙_, ap}
-use mathlib.Core.Bool.{Bool, true, false, cond, _&&_, true≢false, false≢true}
+use mathlib.Core.Bool.{Bool, true, false, cond, _&&_, and-eq-true-iff, true≢false, false≢true}
 use mathlib.Core.List.{[], _∷_}
 use Prim.Native.Nat.{ℕ, zero, suc, _+_, _*_, _≤_, _<_}
 use native.Mathlib.Omega.{arith}
@@ -24,17 +24,13 @@ use Rattle.algebra.proofs.Overlays.{reduced-merge, select-merge, each-m
 use Rattle.algebra.proofs.Made.{Reach, stay, go-by, Made, unchanged, remean}
 
 -- the test of nodes
-both : (a b : Bool) → (a && b) ≡ true → (a ≡ true) × (b ≡ true)
-both true b h = (refl, h)
-both false b h = absurd (false≢true h)
-
 same-edges : (e f : Pieces ℕ) → sameEdges e f ≡ true → e ≡ f
 same-edges (last c) (last d) h = ap last (eqb-true c d h)
 same-edges (last c) (cut d l f) h = absurd (false≢true h)
 same-edges (cut c k e) (last d) h = absurd (false≢true h)
 same-edges (cut c k e) (cut d l f) h =
-    let x = both (eqb c d) (eqb k l && sameEdges e f) h in
-    let y = both (eqb k l) (sameEdges e f) (x .1) in
+    let x = and-eq-true-iff (eqb c d) (eqb k l && sameEdges e f) .0 h in
+    let y = and-eq-true-iff (eqb k l) (sameEdges e f) .0 (x .1) in
     let p = eqb-true c d (x .0) in
     let q = eqb-true k l (y .0) in
     let r = same-edges e f (y .1) in
@@ -46,7 +42,7 @@ edges-same (cut c k e) = rw (eq-eqb c c refl, eq-eqb k k refl) (edges-same e)
 
 pub same-node : (m n : Node) → sameNode m n ≡ true → m ≡ n
 same-node m n h =
-    let x = both (eqb (m .var) (n .var)) (sameEdges (m .edges) (n .edges)) h in
+    let x = and-eq-true-iff (eqb (m .var) (n .var)) (sameEdges (m .edges) (n .edges)) .0 h in
     let p = eqb-true (m .var) (n .var) (x .0) in
     let q = same-edges (m .edges) (n .edges) (x .1) in
     λ i. record { var = p i; edges = q i }

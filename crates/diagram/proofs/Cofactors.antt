@@ -5,7 +5,7 @@ use Prim.Native.Nat.{ℕ, suc, _≤_, _<_}
 use native.Mathlib.Omega.{arith}
 use native.Mathlib.Decide.{ℕ-discrete}
 use lib.Dec.{ltb, eqb}
-use borrow.Author.Tests.{eqb-true, eqb-false, eq-eqb, ne-eqb}
+use borrow.Author.Tests.{eqb-true, eq-eqb, ne-eqb}
 use Rattle.ids.specs.Id.{sign, ref, under}
 use Rattle.ids.proofs.Signs.{under-inj, ref-under}
 use Rattle.diagram.specs.Pieces.{Pieces, last, cut, select, first, count, Each, Rising, Reduced}

@@ -15,7 +15,9 @@ use Rattle.diagram.specs.Table.{firstBoolean, variables, topOf, Node, Ta
 use Rattle.diagram.specs.Cofactor.{upd}
 use Rattle.diagram.specs.Sound.{Known, Child, Sound}
 use Rattle.diagram.specs.Reading.{Within}
+use Rattle.diagram.specs.Room.{width}
 use Rattle.diagram.specs.Ordered.{Run, Diagram, holds, holders, childAt, varOf, runsOf, Later, Ordered, follow, tells, Path, here, via, any, reaches, down, reached, runs, diagramOf}
+use Rattle.diagram.proofs.Either.{either-true}
 use Rattle.diagram.proofs.Lookup.{at-end, truth-end, signed-under}
 use Rattle.diagram.proofs.Piecewise.{reduced-rising}
 use Rattle.diagram.proofs.Facts.{Facts, facts}
@@ -44,10 +46,6 @@ any-found f (y ∷ ys) h = go (f y) refl h (any-found f ys)
     go : (b : Bool) → f y ≡ b → (b || any f ys) ≡ true → (any f ys ≡ true → Found f ys) → Found f (y ∷ ys)
     go true e h rec = record { run = y; there = List·Memᴰ·head refl; yes-it = e }
     go false e h rec = let i = rec h in record { run = i .run; there = List·Memᴰ·tail (i .there); yes-it = i .yes-it }
-
-pub either-true : (a b : Bool) → (a || b) ≡ true → (a ≡ true) ⊎ (b ≡ true)
-either-true true b h = inl refl
-either-true false b h = inr h
 
 -- the test of reaching finds a path,
 pub reaches-path : (n : ℕ) (d : Diagram) (r s : ℕ) → reaches n d r s ≡ true → Path d r s
@@ -177,6 +175,10 @@ module _ (d : Diagram) (o : Ordered d) where
 pub var-of : (t : Table) (r : ℕ) → varOf (diagramOf t) r ≡ (at t r) .var
 var-of t zero = sym (ap (λ (m : Node). m .var) (at-end t))
 var-of t (suc r) = refl
+
+pub width-runs : (t : Table) (r : ℕ) → 0 < r → length (runsOf (diagramOf t) r) ≡ width t r
+width-runs t zero h = absurd (omega arith)
+width-runs t (suc n) h = length-runs 0 (topOf ((at t (suc n)) .var)) ((at t (suc n)) .edges)
 
 pub later-child : (t : Table) (u id : ℕ) → Child t u id → Later (diagramOf t) u id
 later-child t u id k = (k .0, rw (var-of t (ref id)) (k .1))

@@ -22,8 +22,8 @@ use Rattle.diagram.proofs.Facts.{facts, value-agree}
 use Rattle.diagram.proofs.Cofactors.{edges-of, edge-child, value-edge, select-own, count-own, upd-later, upd-within}
 use Rattle.diagram.proofs.Apart.{one-id}
 use Rattle.diagram.proofs.Counting.{falling-filter, falling-down, Partner, weigh, sum-one}
-use Rattle.diagram.proofs.Runs.{length-runs, Piece, run-piece, no-fewer}
-use Rattle.diagram.proofs.Diagrams.{path-trans, reached-path, path-reached, held-at, child-run, kid, kid-later, kid-path, tells-agree, tells-under, tells-kid, sound-ordered}
+use Rattle.diagram.proofs.Runs.{Piece, run-piece, no-fewer}
+use Rattle.diagram.proofs.Diagrams.{path-trans, reached-path, path-reached, held-at, child-run, kid, kid-later, kid-path, tells-agree, tells-under, tells-kid, width-runs, sound-ordered}
 
 -- a ref with a variable of the order is a node's
 pub is-vertex : (d : Diagram) (r : ℕ) → varOf d r < variables → 0 < r
@@ -220,10 +220,6 @@ module _ (t : Table) (z : Sound t) (d : Diagram) (o : Ordered d) where
         lighter = rw (x .ref-is) at (h (x .of) k nx);
       }
 
-  edges-are : (r : ℕ) → 0 < r → length (runsOf (diagramOf t) r) ≡ width t r
-  edges-are zero h = absurd (omega arith)
-  edges-are (suc n) h = length-runs 0 (topOf ((at t (suc n)) .var)) ((at t (suc n)) .edges)
-
   pub fewest : (a c : ℕ) → Known t a → ref c ≤ d .size → Same a c → (nodeCount (diagramOf t) a ≤ nodeCount d c) × (edgeCount (diagramOf t) a ≤ edgeCount d c)
   unfolding reached
   fewest a c la lc i =
@@ -231,5 +227,5 @@ module _ (t : Table) (z : Sound t) (d : Diagram) (o : Ordered d) where
         rw (← (sum-one (reached (diagramOf t) a)), ← (sum-one (reached d c)))
             (weigh (λ x. 1) (λ x. 1) Pair pair-inj (suc (length t)) (reached (diagramOf t) a) f (reached d c) (λ s m. partner a c s la lc i m (λ x. 1) (λ x. 1) (λ x k n. omega arith))),
         weigh (λ r. length (runsOf (diagramOf t) r)) (λ r. length (runsOf d r)) Pair pair-inj (suc (length t)) (reached (diagramOf t) a) f (reached d c)
-            (λ s m. partner a c s la lc i m (λ r. length (runsOf (diagramOf t) r)) (λ r. length (runsOf d r)) (λ x k n. rw (edges-are (ref x) (n .some)) (lighter x c n k))),
+            (λ s m. partner a c s la lc i m (λ r. length (runsOf (diagramOf t) r)) (λ r. length (runsOf d r)) (λ x k n. rw (width-runs t (ref x) (n .some)) (lighter x c n k))),
       )

@@ -1,3 +1,4 @@
+pub mod Either
 pub mod Piecewise
 pub mod Lookup
 pub mod Facts

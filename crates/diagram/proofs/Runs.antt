@@ -1,6 +1,6 @@
 -- Runs of positions: which one holds a position, the runs of pieces, and that no fewer runs than reduced pieces do. Assumes nothing.
 use mathlib.Core.Path.{_≡_, refl, sym, _∙_, ap}
-use mathlib.Core.Bool.{Bool, true, false, cond, _&&_, false≢true}
+use mathlib.Core.Bool.{Bool, true, false, cond, and-eq-true-iff, false≢true}
 use mathlib.Core.List.{List, [], _∷_, List·Memᴰ, List·Memᴰ·head, List·Memᴰ·tail}
 use Prim.Native.Nat.{ℕ, suc, _+_, _-_, _≤_, _<_}
 use native.Mathlib.Omega.{arith}
@@ -14,12 +14,7 @@ use Rattle.diagram.proofs.Counting.{remove, length-remove, mem-remove, 
 
 -- the test of a run
 pub holds-from : (x : Run) (p : ℕ) → holds x p ≡ true → (x .from ≤ p) × (p ≤ x .upto)
-holds-from x p h = go (leb (x .from) p) refl (leb p (x .upto)) refl h
-  where
-    go : (a : Bool) → leb (x .from) p ≡ a → (b : Bool) → leb p (x .upto) ≡ b → (a && b) ≡ true → (x .from ≤ p) × (p ≤ x .upto)
-    go true e true f h = (leb-true (x .from) p e, leb-true p (x .upto) f)
-    go true e false f h = absurd (false≢true h)
-    go false e b f h = absurd (false≢true h)
+holds-from x p h = let i = and-eq-true-iff (leb (x .from) p) (leb p (x .upto)) .0 h in (leb-true (x .from) p (i .0), leb-true p (x .upto) (i .1))
 
 pub from-holds : (x : Run) (p : ℕ) → x .from ≤ p → p ≤ x .upto → holds x p ≡ true
 from-holds x p h l = rw (le-leb (x .from) p h, le-leb p (x .upto) l)

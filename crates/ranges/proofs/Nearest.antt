@@ -1,6 +1,6 @@
 -- The nearest place inside bounds that are not empty: it is inside, and no place inside is nearer. Assumes nothing.
-use mathlib.Core.Path.{_≡_, refl, sym, _∙_}
-use mathlib.Core.Bool.{Bool, true, false, cond, _&&_, false≢true}
+use mathlib.Core.Path.{_≡_, sym, _∙_}
+use mathlib.Core.Bool.{Bool, true, false, cond, and-eq-true-iff}
 use Prim.Native.Nat.{ℕ, _+_, _-_, _≤_, min, max}
 use native.Mathlib.Omega.{arith}
 use lib.Dec.{leb, ltb}
@@ -49,12 +49,8 @@ module _ (lower upper : Bound) (kl : Keyed lower) (ku : Keyed upper) where
       inside-positions lower upper kl ku (nearest lower upper p) (place-nearest p h)
       ∙ rw (le-leb lo (position (nearest lower upper p)) (omega arith), le-leb (position (nearest lower upper p)) hi (omega (arith, first-last e)))
 
-  both : (a b : Bool) → (a && b) ≡ true → (a ≡ true) × (b ≡ true)
-  both true b h = (refl, h)
-  both false b h = absurd (false≢true h)
-
   -- and no place inside is nearer
   pub nearest-least : empty lower upper ≡ false → (p : ℤ) → Place p → (q : ℤ) → Place q → inside lower upper q ≡ true → distance p (nearest lower upper p) ≤ distance p q
   nearest-least e p h q hq i =
-      let x = both (leb lo (position q)) (leb (position q) hi) (sym (inside-positions lower upper kl ku q hq) ∙ i) in
+      let x = and-eq-true-iff (leb lo (position q)) (leb (position q) hi) .0 (sym (inside-positions lower upper kl ku q hq) ∙ i) in
       omega (arith, position-nearest e p h, leb-true lo (position q) (x .0), leb-true (position q) hi (x .1))
