@@ -1,3 +1,4 @@
+-- The laws of the operations, lowest first; Promises and Starred state the theorems. Assumes nothing.
 pub mod Overlays
 pub mod Made
 pub mod Making

@@ -1,3 +1,4 @@
+-- The operations, and what is asked of them. Assumes nothing.
 pub mod Overlay
 pub mod Making
 pub mod Conditions

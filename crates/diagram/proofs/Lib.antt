@@ -1,3 +1,4 @@
+-- The laws of tables and diagrams, lowest first; Promises states the theorems. Assumes nothing.
 pub mod Either
 pub mod Piecewise
 pub mod Lookup

@@ -1,3 +1,4 @@
+-- What a reader must believe of tables, readings and diagrams. Assumes nothing.
 pub mod Pieces
 pub mod Table
 pub mod Cofactor

@@ -1,2 +1,3 @@
+-- Ids as numbers. Assumes nothing.
 pub mod Id
 pub mod Index

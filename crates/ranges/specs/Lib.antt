@@ -1,3 +1,4 @@
+-- The dense line, bounds and ranges. Assumes nothing.
 pub mod Line
 pub mod Bounding
 pub mod Comparing
