@@ -4,6 +4,7 @@ pub mod Made
 pub mod Making
 pub mod Walking
 pub mod Conjoining
+pub mod Commuting
 pub mod Disjoint
 pub mod Descending
 pub mod Conditioning
