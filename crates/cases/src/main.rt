@@ -3,14 +3,12 @@
 use ids::NodeId;
 use ranges::bounds::Bound;
 use ranges::bounds::Comparison;
+use ranges::places::ZERO;
 use ranges::spans::Compared;
 use ranges::spans::Range;
 use ranges::spans::from_comparison;
 
 const OUT: i32 = 1;
-
-// The position of place 0.
-const ZERO: u64 = 4294967297;
 
 // A place, by its position.
 fn show_place(position: u64) {

@@ -1,7 +1,7 @@
 // Ids: `NodeId` of the source, with the range test that its `index` lacks.
 ghost use mathlib.Core.Path.{_≡_};
 ghost use mathlib.Core.Bool.{cond};
-ghost use Prim.Native.Nat.{ℕ, _+_, _-_, _*_, _^_, _<_};
+ghost use Prim.Native.Nat.{_-_, _^_, _<_};
 ghost use lib.Dec.{eqb, leb};
 ghost use Rattle.ids.specs.Id.{TRUE, FALSE, idOf, sign, ref, flip, under};
 ghost use Rattle.ids.specs.Index.{indexOf};

@@ -1,4 +1,4 @@
--- `ranges::places::place_at` meets its contract: the difference is the position, lowered to its place. Assumes nothing.
+-- `ranges::places::place_at` meets its contract: the sum is the position, lowered to its place. Assumes nothing.
 use borrow.Author.Needs.{needs}
 use Rattle.ranges.proofs.Machine.{lowered-fits, lowered-value}
 use Rattle.ranges.proofs.places.place_at.Statement.{statement}
@@ -7,11 +7,11 @@ use Rattle.ranges.proofs.places.place_at.Tie as tie
 cast-result : tie.Need-cast-result
 cast-result c = search needs
 
-sub-result : tie.Need-sub-result
-sub-result c = lowered-fits (c .args .position) (c .pre)
+add-result : tie.Need-add-result
+add-result c = lowered-fits (c .args .position) (c .pre)
 
 returns : tie.Need-returns
 returns c = lowered-value (c .args .position) (c .pre)
 
 pub place-at-spec : {M : Type 1} → statement M
-place-at-spec = tie.close (tie.spec cast-result sub-result returns)
+place-at-spec = tie.close (tie.spec cast-result add-result returns)

@@ -1,4 +1,4 @@
--- `ranges::places::position_of_key` meets its contract: the sum is the place of the key, raised to its position. Assumes nothing.
+-- `ranges::places::position_of_key` meets its contract: the difference is the place of the key, raised to its position. Assumes nothing.
 use Rattle.ranges.specs.Line.{Key}
 use Rattle.ranges.proofs.Machine.{key-fits, wide-fits, twice-fits, twice-raised, raised-fits, raised-cast, raised-value}
 use Rattle.ranges.proofs.places.position_of_key.Statement.{statement}
@@ -13,8 +13,8 @@ cast-wide c = wide-fits (c .args .key) (key c)
 add-result : tie.Need-add-result
 add-result c = twice-fits (c .args .key) (key c)
 
-add-result-2 : tie.Need-add-result-2
-add-result-2 c = raised-fits (twice-raised (c .args .key) (key c))
+sub-result : tie.Need-sub-result
+sub-result c = raised-fits (twice-raised (c .args .key) (key c))
 
 cast-result : tie.Need-cast-result
 cast-result c = raised-cast (twice-raised (c .args .key) (key c))
@@ -23,4 +23,4 @@ returns : tie.Need-returns
 returns c = raised-value (twice-raised (c .args .key) (key c))
 
 pub position-of-key-spec : {M : Type 1} → statement M
-position-of-key-spec = tie.close (tie.spec cast-wide add-result add-result-2 cast-result returns)
+position-of-key-spec = tie.close (tie.spec cast-wide add-result sub-result cast-result returns)

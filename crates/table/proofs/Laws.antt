@@ -1,0 +1,290 @@
+-- What the proofs of several functions cite.
+-- Assumes nothing.
+use mathlib.Core.Path.{_≡_, refl, sym, _∙_, ap, subst}
+use mathlib.Core.Bool.{Bool, true, false, cond}
+use mathlib.Core.List.{List, [], _∷_}
+use mathlib.Core.Logic.{_⊎_, inl, inr, ⊎-elim}
+use Prim.Native.Nat.{ℕ, zero, suc, _+_, _-_, _*_, _/_, _≤_, _<_, _^_}
+use native.Mathlib.Omega.{arith}
+use native.Mathlib.Nat.{eq-or-lt-of-le, mul-le-mul, mul-lt-mul-of-pos-right}
+use borrow.Author.Tests.{lt-ltb, le-ltb, ltb-true, ltb-false, eqb-true}
+use lib.Bits.{bitOr, or-add-and, and-le-l, and-le-r}
+use lib.Dec.{ltb, eqb, leb→le, le→leb}
+use lib.ListN.{length, getD}
+use lib.IntN.{ℤ, pos, negsuc, _+ℤ_}
+use lib.Signed.{ltZ, leZ-yes}
+use Rattle.ranges.specs.Line.{Place}
+use mir.Syntax.{w64}
+use mir.Val.{SFits, ofZ, toZ}
+use mir.ValLaws.{toZ-ofZ}
+use native.Mathlib.Numerals.{add-one}
+use Rattle.table.specs.Deciding.{Decides, holds, fails}
+use Rattle.table.specs.Layout.{level, cutAt, kidAt, countAt, start}
+use Rattle.table.specs.Indexed.{hashTo, mix}
+use Rattle.table.specs.Lent.{SameRun, KidsStand, Blank, SoundLent}
+use Rattle.table.specs.Checking.{below, Down, here, there, Climbs, some, tally, Judges, sound, unsound}
+
+pub clash : {b : Bool} → b ≡ false → b ≡ true → ⊥
+clash p q = let z : _≡_ {A = ℕ} 0 1 = cc in omega arith
+
+pub proved : {P : Type 0} {b : Bool} → Decides P b → b ≡ true → P
+proved (holds p) e = p
+proved (fails n) e = absurd (clash refl e)
+
+pub refuted : {P : Type 0} {b : Bool} → Decides P b → b ≡ false → P → ⊥
+refuted (holds p) e q = clash e refl
+refuted (fails n) e q = n q
+
+-- an answer handed on
+pub to : {P Q : Type 0} {b : Bool} → Decides P b → (P → Q) → (Q → P) → Decides Q b
+to (holds p) f g = holds (f p)
+to (fails n) f g = fails (λ q. n (g q))
+
+pub last : (j i : ℕ) → j < i + 1 → (j ≡ i) ⊎ (j < i)
+last j i h = eq-or-lt-of-le (omega arith)
+
+pub split : (a b : ℕ) → (a < b) ⊎ (b ≤ a)
+split a zero = inr (omega arith)
+split zero (suc b) = inl (omega arith)
+split (suc a) (suc b) = ⊎-elim (λ h. inl (omega arith)) (λ h. inr (omega arith)) (split a b)
+
+pub past : {X : Type 0} (xs : List X) (d : X) (j : ℕ) → length xs ≤ j → getD xs j d ≡ d
+past [] d j h = refl
+past (x ∷ xs) d zero h = absurd (omega arith)
+past (x ∷ xs) d (suc j) h = past xs d j (omega arith)
+
+-- Signed numbers, by their bits.
+pub same-bits : {y z : ℤ} → SFits w64 y → SFits w64 z → ofZ w64 y ≡ ofZ w64 z → y ≡ z
+same-bits {y} {z} f g e = sym (toZ-ofZ w64 y f) ∙ (ap (toZ w64) e ∙ toZ-ofZ w64 z g)
+
+pub zero-fits : SFits w64 (pos 0)
+zero-fits = record { sfits = omega arith }
+
+on : (b : Bool) {X : Type 0} (x y : X) → b ≡ true → cond b x y ≡ x
+on true x y e = refl
+on false x y e = absurd (clash refl e)
+
+off : (b : Bool) {X : Type 0} (x y : X) → b ≡ false → cond b x y ≡ y
+off false x y e = refl
+off true x y e = absurd (clash e refl)
+
+-- below the lowest cut, above the highest, and between
+low : (z : ℤ) → ltZ z (negsuc 4294967295) ≡ true → level z ≡ 0
+low (pos n) e = absurd (clash refl e)
+low (negsuc n) e = omega (arith, ltb-true 4294967295 n e)
+
+high : (z : ℤ) → ltZ (pos 4294967295) z ≡ true → level z ≡ 0
+high (pos n) e = off (ltb n 4294967296) (n + 4294967297) 0 (le-ltb n 4294967296 (omega (arith, ltb-true 4294967295 n e)))
+high (negsuc n) e = absurd (clash refl e)
+
+pub record Mid (z : ℤ) : Type 0 where
+  pub sum : z +ℤ pos 4294967297 ≡ pos (level z)
+  pub small : level z < 8589934593
+
+mid : (z : ℤ) → ltZ z (negsuc 4294967295) ≡ false → ltZ (pos 4294967295) z ≡ false → Mid z
+mid (pos n) l h =
+    let b : n ≤ 4294967295 = ltb-false 4294967295 n h in
+    let e : cond (ltb n 4294967296) (n + 4294967297) 0 ≡ n + 4294967297 = on (ltb n 4294967296) (n + 4294967297) 0 (lt-ltb n 4294967296 (omega arith)) in
+    record { sum = ap pos (sym e); small = omega arith }
+mid (negsuc n) l h =
+    let b : n ≤ 4294967295 = ltb-false 4294967295 n l in
+    let e : 4294967297 - suc n ≡ 4294967296 - n = omega arith in
+    record { sum = off (ltb 4294967297 (suc n)) (negsuc (suc n - suc 4294967297)) (pos (4294967297 - suc n)) (le-ltb 4294967297 (suc n) (omega arith)) ∙ ap pos e; small = omega arith }
+
+module _ (z : ℤ) (f : SFits w64 z) where
+  plain : toZ w64 (ofZ w64 z) ≡ z
+  plain = toZ-ofZ w64 z f
+
+  pub level-low : ltZ (toZ w64 (ofZ w64 z)) (negsuc 4294967295) ≡ true → level z ≡ 0
+  level-low e = low z (subst (λ (y : ℤ). ltZ y (negsuc 4294967295) ≡ true) plain e)
+
+  pub level-high : ltZ (pos 4294967295) (toZ w64 (ofZ w64 z)) ≡ true → level z ≡ 0
+  level-high e = high z (subst (λ (y : ℤ). ltZ (pos 4294967295) y ≡ true) plain e)
+
+  module _ (l : ltZ (toZ w64 (ofZ w64 z)) (negsuc 4294967295) ≡ false) (h : ltZ (pos 4294967295) (toZ w64 (ofZ w64 z)) ≡ false) where
+    pub level-mid : Mid z
+    level-mid = mid z (subst (λ (y : ℤ). ltZ y (negsuc 4294967295) ≡ false) plain l) (subst (λ (y : ℤ). ltZ (pos 4294967295) y ≡ false) plain h)
+
+    sum : toZ w64 (ofZ w64 z) +ℤ pos 4294967297 ≡ pos (level z)
+    sum = ap (λ (y : ℤ). y +ℤ pos 4294967297) plain ∙ level-mid .sum
+
+    fits : SFits w64 (pos (level z))
+    fits = record { sfits = omega (arith, level-mid .small) }
+
+    pub level-fits : SFits w64 (toZ w64 (ofZ w64 z) +ℤ pos 4294967297)
+    level-fits = subst (SFits w64) (sym sum) fits
+
+    pub level-sum : toZ w64 (ofZ w64 (toZ w64 (ofZ w64 z) +ℤ pos 4294967297)) ≡ pos (level z)
+    level-sum = ap (λ (s : ℤ). toZ w64 (ofZ w64 s)) sum ∙ toZ-ofZ w64 (pos (level z)) fits
+
+pub at : (xs : List ℕ) (a b : ℕ) → a ≡ b → getD xs a 0 ≡ getD xs b 0
+at xs a b e = ap (λ (i : ℕ). getD xs i 0) e
+
+pub above : {a b a' b' : ℕ} → a' ≡ a → b' ≡ b → b' ≤ a' → a < b → ⊥
+above p q h l = omega arith
+
+pub above-yes : {a b a' b' : ℕ} → a' ≡ a → b' ≡ b → a' < b' → a < b
+above-yes p q h = omega arith
+
+-- the next step of a definition that recurses on suc
+pub below-next : (cuts : List ℤ) (e j : ℕ) → below cuts e (j + 1) ≡ level (cutAt cuts (e + j))
+below-next cuts e j = ap (below cuts e) (add-one j)
+
+pub hash-next : (children : List ℕ) (cuts : List ℤ) (v e j : ℕ) → hashTo children cuts v e (j + 1) ≡ mix (hashTo children cuts v e j) (kidAt children (e + j)) (level (cutAt cuts (e + j)))
+unfolding hashTo
+hash-next children cuts v e j = ap (hashTo children cuts v e) (add-one j)
+
+pub hash-none : (children : List ℕ) (cuts : List ℤ) (v e : ℕ) → v < 4294967296 → hashTo children cuts v e 0 ≡ v
+unfolding hashTo
+hash-none children cuts v e h = omega arith
+
+pub hash-lt : (children : List ℕ) (cuts : List ℤ) (v e j : ℕ) → hashTo children cuts v e j < 4294967296
+unfolding hashTo
+hash-lt children cuts v e zero = omega arith
+hash-lt children cuts v e (suc j) = omega arith
+
+pub product-fits : (h r : ℕ) → h < 4294967296 → r ≤ 4096 → h * r ≤ 17592186044416
+product-fits h r a b = let x : h * r ≤ 4294967296 * 4096 = mul-le-mul (let y : h ≤ 4294967296 = omega arith in y) b in omega arith
+
+pub scaled-lt : (h r : ℕ) → h < 4294967296 → 0 < r → h * r / 4294967296 < r
+scaled-lt h r a b = let x : h * r < 4294967296 * r = mul-lt-mul-of-pos-right a b in omega arith
+
+pub mixed : {h c k h' c' k' : ℕ} → h ≡ h' → c ≡ c' → k ≡ k' → mix h c k ≡ mix h' c' k'
+mixed p q r = λ i. mix (p i) (q i) (r i)
+
+pub start-next : (nodes : List ℕ) (n : ℕ) → start nodes (n + 1) ≡ start nodes n + countAt nodes n
+unfolding start
+start-next nodes n = ap (start nodes) (add-one n)
+
+pub start-none : (nodes : List ℕ) → start nodes 0 ≡ 0
+unfolding start
+start-none nodes = refl
+
+-- Walks.
+module _ {index : List ℕ} {r : ℕ} where
+  pub down-le : {x y : ℕ} → Down index r x y → y ≤ x
+  down-le here = omega arith
+  down-le (there h d) = omega (arith, down-le d)
+
+  pub down-step : {x y : ℕ} → y < x → Down index r x y → (getD index (r + (x - 1)) 0 ≤ x - 1) × Down index r (getD index (r + (x - 1)) 0) y
+  down-step l here = absurd (omega arith)
+  down-step {y = y} l (there {k} h d) =
+      let e : k ≡ suc k - 1 = omega arith in
+      subst (λ (i : ℕ). (getD index (r + i) 0 ≤ i) × Down index r (getD index (r + i) 0) y) e (h, d)
+
+  pub down-back : (x : ℕ) {y : ℕ} → 0 < x → getD index (r + (x - 1)) 0 ≤ x - 1 → Down index r (getD index (r + (x - 1)) 0) y → Down index r x y
+  down-back zero l h d = absurd (omega arith)
+  down-back (suc k) {y} l h d =
+      let e : suc k - 1 ≡ k = omega arith in
+      let q = subst (λ (i : ℕ). (getD index (r + i) 0 ≤ i) × Down index r (getD index (r + i) 0) y) e (h, d) in
+      there (q .0) (q .1)
+
+  pub down-same : {x y : ℕ} → x ≡ y → Down index r x y
+  down-same {x} e = subst (λ (y : ℕ). Down index r x y) e here
+
+-- The same fact at equal numbers.
+pub same-at : {children : List ℕ} {cuts : List ℤ} {a b n a' b' n' : ℕ} → a ≡ a' → b ≡ b' → n ≡ n' → SameRun children cuts a b n → SameRun children cuts a' b' n'
+same-at {children} {cuts} {a} {b} {n} {a'} {b'} {n'} p q r s =
+    subst (λ (i : ℕ). SameRun children cuts a' b' i) r (subst (λ (i : ℕ). SameRun children cuts a' i n) q (subst (λ (i : ℕ). SameRun children cuts i b n) p s))
+
+pub kids-at : {nodes children : List ℕ} {m v e n v' e' n' : ℕ} → v ≡ v' → e ≡ e' → n ≡ n' → KidsStand nodes children m v e n → KidsStand nodes children m v' e' n'
+kids-at {nodes} {children} {m} {v} {e} {n} {v'} {e'} {n'} p q r s =
+    subst (λ (i : ℕ). KidsStand nodes children m v' e' i) r (subst (λ (i : ℕ). KidsStand nodes children m v' i n) q (subst (λ (i : ℕ). KidsStand nodes children m i e n) p s))
+
+pub rising-at : {cuts : List ℤ} {e n e' n' : ℕ} → e ≡ e' → n ≡ n' → Climbs cuts e n → Climbs cuts e' n'
+rising-at {cuts} {e} {n} {e'} {n'} q r s = subst (λ (i : ℕ). Climbs cuts e' i) r (subst (λ (i : ℕ). Climbs cuts i n) q s)
+
+pub blank-at : {cuts : List ℤ} {e e' : ℕ} → e ≡ e' → Blank cuts e → Blank cuts e'
+blank-at {cuts} q s = subst (λ (i : ℕ). Blank cuts i) q s
+
+module _ {index : List ℕ} {r : ℕ} where
+  -- a walk from a bucket's word, which was read at a number that is the bucket
+  pub head-at : {b b' x y : ℕ} → b ≡ b' → x ≡ getD index b 0 → Down index r x y → Down index r (getD index b' 0) y
+  head-at {y = y} p q d = subst (λ (i : ℕ). Down index r (getD index i 0) y) p (subst (λ (i : ℕ). Down index r i y) q d)
+
+  pub head-from : {b b' x y : ℕ} → b ≡ b' → x ≡ getD index b 0 → Down index r (getD index b' 0) y → Down index r x y
+  head-from {y = y} p q d = subst (λ (i : ℕ). Down index r i y) (sym q) (subst (λ (i : ℕ). Down index r (getD index i 0) y) (sym p) d)
+
+  pub down-suc : {x n : ℕ} → Down index r x (suc n) → Down index r x (n + 1)
+  down-suc {x} {n} d = subst (λ (i : ℕ). Down index r x i) (sym (add-one n)) d
+
+  pub down-one : {x n : ℕ} → Down index r x (n + 1) → Down index r x (suc n)
+  down-one {x} {n} d = subst (λ (i : ℕ). Down index r x i) (add-one n) d
+
+pub one : (n : ℕ) → (n ≡ 0 → ⊥) → n < 2 → n ≡ 1
+one zero f h = absurd (f refl)
+one (suc zero) f h = refl
+one (suc (suc n)) f h = absurd (omega arith)
+
+pub tally-next : (F : ℕ → ℕ) (n : ℕ) → tally F (n + 1) ≡ tally F n + some (F n)
+unfolding tally
+tally-next F n = ap (tally F) (add-one n)
+
+pub tally-none : (F : ℕ → ℕ) → tally F 0 ≡ 0
+unfolding tally
+tally-none F = refl
+
+pub some-one : (n : ℕ) → (n ≡ 0 → ⊥) → 1 ≡ some n
+some-one zero f = absurd (f refl)
+some-one (suc n) f = refl
+
+pub some-zero : (n : ℕ) → some n ≡ 0 → n ≡ 0
+some-zero zero e = refl
+some-zero (suc n) e = absurd (omega arith)
+
+-- a number that is 0 exactly when P holds
+pub given-yes : {P : Type 0} → P → Decides P (eqb 0 0)
+given-yes p = holds p
+
+pub given-no : {P : Type 0} → (P → ⊥) → Decides P (eqb 1 0)
+given-no n = fails n
+
+pub yes-zero : {P : Type 0} {r : ℕ} → Decides P (eqb r 0) → P → r ≡ 0
+yes-zero {P} {r} d p = go (eqb r 0) refl d
+  where
+    go : (b : Bool) → eqb r 0 ≡ b → Decides P b → r ≡ 0
+    go true e d = eqb-true r 0 e
+    go false e (fails n) = absurd (n p)
+
+-- Places.
+place-low : (z : ℤ) → ltZ z (negsuc 4294967296) ≡ true → Place z → ⊥
+place-low (pos n) e p = clash refl e
+place-low (negsuc n) e p = omega (arith, ltb-true 4294967296 n e, leb→le n (2 ^ 32) (p .0 .le))
+
+place-high : (z : ℤ) → ltZ (pos 4294967295) z ≡ true → Place z → ⊥
+place-high (pos n) e p = omega (arith, ltb-true 4294967295 n e, leb→le n (2 ^ 32 - 1) (p .1 .le))
+place-high (negsuc n) e p = clash refl e
+
+place-mid : (z : ℤ) → ltZ z (negsuc 4294967296) ≡ false → ltZ (pos 4294967295) z ≡ false → Place z
+place-mid (pos n) l h = (leZ-yes tt, record { le = le→leb n (2 ^ 32 - 1) (ltb-false 4294967295 n h) })
+place-mid (negsuc n) l h = (record { le = le→leb n (2 ^ 32) (ltb-false 4294967296 n l) }, leZ-yes tt)
+
+module _ (z : ℤ) (f : SFits w64 z) where
+  pub below-places : ltZ (toZ w64 (ofZ w64 z)) (negsuc 4294967296) ≡ true → Place z → ⊥
+  below-places e = place-low z (subst (λ (y : ℤ). ltZ y (negsuc 4294967296) ≡ true) (toZ-ofZ w64 z f) e)
+
+  pub above-places : ltZ (pos 4294967295) (toZ w64 (ofZ w64 z)) ≡ true → Place z → ⊥
+  above-places e = place-high z (subst (λ (y : ℤ). ltZ (pos 4294967295) y ≡ true) (toZ-ofZ w64 z f) e)
+
+  pub among-places : ltZ (toZ w64 (ofZ w64 z)) (negsuc 4294967296) ≡ false → ltZ (pos 4294967295) (toZ w64 (ofZ w64 z)) ≡ false → Place z
+  among-places l h = place-mid z (subst (λ (y : ℤ). ltZ y (negsuc 4294967296) ≡ false) (toZ-ofZ w64 z f) l) (subst (λ (y : ℤ). ltZ (pos 4294967295) y ≡ false) (toZ-ofZ w64 z f) h)
+
+-- what the check value, by its answer
+pub judged-yes : {nodes children : List ℕ} {cuts : List ℤ} {index : List ℕ} {u e : ℕ} {b : Bool} → Judges nodes children cuts index u e b → b ≡ true → SoundLent nodes children cuts index u
+judged-yes (sound s q) e = s
+judged-yes (unsound x) e = absurd (clash refl e)
+
+pub judged-no : {nodes children : List ℕ} {cuts : List ℤ} {index : List ℕ} {u e : ℕ} {b : Bool} → Judges nodes children cuts index u e b → b ≡ false → (u : ℕ) → SoundLent nodes children cuts index u → ⊥
+judged-no (sound s q) e = absurd (clash e refl)
+judged-no (unsound x) e = x
+
+-- words gathered by `or` are zero when each is
+pub or-zero : (a b : ℕ) → bitOr a b ≡ 0 → (a ≡ 0) × (b ≡ 0)
+or-zero a b e = (omega (arith, or-add-and a b, and-le-r a b), omega (arith, or-add-and a b, and-le-l a b))
+
+pub zero-or : (a b : ℕ) → a ≡ 0 → b ≡ 0 → bitOr a b ≡ 0
+zero-or a b p q = omega (arith, or-add-and a b)
+
+pub some-of : (x : ℕ) → ((x ≡ 0) × (some x ≡ 0)) ⊎ ((0 < x) × (some x ≡ 1))
+some-of zero = inl (refl, refl)
+some-of (suc x) = inr (omega arith, refl)

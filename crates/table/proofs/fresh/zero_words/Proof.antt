@@ -1,0 +1,42 @@
+-- `fresh::zero_words`: the cells passed hold zero. Assumes nothing.
+use mathlib.Core.Path.{_≡_, refl}
+use Prim.Native.Nat.{_-_, _≤_}
+use native.Mathlib.Omega.{arith}
+use lib.ListN.{length, length-set}
+use borrow.Author.Needs.{needs}
+use Rattle.table.proofs.Zeroed.{Filled, filled-next, filled-all}
+use Rattle.table.proofs.fresh.zero_words.Statement.{statement}
+use Rattle.table.proofs.fresh.zero_words.Tie as tie
+
+abbrev Inv-loop : tie.InvT-loop
+Inv-loop words₀ i₀ words i = (i ≤ length words) × (length words ≡ length words₀) × Filled 0 words i
+
+abbrev μ-loop : tie.MeasureT-loop
+μ-loop words₀ i₀ words i = length words - i
+
+loop-holds : tie.Need-loop-holds Inv-loop μ-loop
+loop-holds c = (omega arith, refl, λ j l. absurd (omega arith))
+
+mul-words : tie.Need-mul-words Inv-loop μ-loop
+mul-words c = search needs
+
+slice-write-words : tie.Need-slice-write-words Inv-loop μ-loop
+slice-write-words c = search needs
+
+add-i : tie.Need-add-i Inv-loop μ-loop
+add-i c = search needs
+
+loop-less : tie.Need-loop-less Inv-loop μ-loop
+loop-less c = simp length-set (omega arith)
+
+loop-again : tie.Need-loop-again Inv-loop μ-loop
+loop-again c = (simp length-set (omega arith), simp length-set ((c .before .loop .inv .1)), filled-next 0 ((c .before .loop .words)) ((c .before .loop .i)) (omega arith) ((c .before .loop .inv .2)))
+
+same-length : tie.Need-same-length Inv-loop μ-loop
+same-length c = (c .before .loop .inv .1)
+
+returns : tie.Need-returns Inv-loop μ-loop
+returns c = filled-all 0 ((c .before .loop .words)) _ ((c .before .loop .inv .1)) (λ j l. (c .before .loop .inv .2) j (omega (arith, (c .before .loop .inv .1))))
+
+pub zero-words-spec : {M : Type 1} → statement M
+zero-words-spec = tie.close (tie.spec Inv-loop μ-loop loop-holds mul-words slice-write-words add-i loop-less loop-again same-length returns)

@@ -1,0 +1,81 @@
+-- `index::same_edges` meets its contract. Assumes nothing.
+use Prim.Native.Nat.{ℕ, _<_, _≤_, _+_, _-_}
+use mathlib.Core.Path.{_≡_, sym, _∙_}
+use mathlib.Core.Logic.{⊎-elim}
+use native.Mathlib.Omega.{arith}
+use borrow.Author.Needs.{needs}
+use borrow.Author.Tests.{not-true, not-false}
+use Rattle.table.specs.Deciding.{holds, fails}
+use Rattle.table.specs.Layout.{kidAt, cutAt}
+use Rattle.table.proofs.Laws as laws
+use Rattle.table.proofs.index.same_edges.Statement.{statement}
+use Rattle.table.proofs.index.same_edges.Tie as tie
+
+abbrev Inv-loop : tie.InvT-loop
+Inv-loop children cuts a b count j₀ j = (j ≤ count) × ((k : ℕ) → k < j → kidAt children (a + k) ≡ kidAt children (b + k)) × ((k : ℕ) → k < j → cutAt cuts (a + k) ≡ cutAt cuts (b + k))
+
+abbrev μ-loop : tie.MeasureT-loop
+μ-loop children cuts a b count j₀ j = count - j
+
+loop-holds : tie.Need-loop-holds Inv-loop μ-loop
+loop-holds c = (omega arith, λ k l. absurd (omega arith), λ k l. absurd (omega arith))
+
+add-child-at : tie.Need-add-child-at Inv-loop μ-loop
+add-child-at c = search needs
+
+child-at-requires : tie.Need-child-at-requires Inv-loop μ-loop
+child-at-requires c κs = search needs
+
+add-child-at-2 : tie.Need-add-child-at-2 Inv-loop μ-loop
+add-child-at-2 c = search needs
+
+child-at-requires-2 : tie.Need-child-at-requires-2 Inv-loop μ-loop
+child-at-requires-2 c κs = search needs
+
+returns : tie.Need-returns Inv-loop μ-loop
+returns c = fails (λ p. (c .if1 .taken) ((c .before .before .child-at .ensures .0) ∙ (p .child ((c .before .before .before .before .loop .j)) ((c .before .before .before .loop-test .taken)) ∙ sym ((c .before .child-at2 .ensures .0)))))
+
+add-equal-at : tie.Need-add-equal-at Inv-loop μ-loop
+add-equal-at c = search needs
+
+add-equal-at-2 : tie.Need-add-equal-at-2 Inv-loop μ-loop
+add-equal-at-2 c = search needs
+
+equal-at-requires : tie.Need-equal-at-requires Inv-loop μ-loop
+equal-at-requires c κs = search needs
+
+returns-2 : tie.Need-returns-2 Inv-loop μ-loop
+returns-2 c = fails (λ p. laws.refuted ((c .before .equal-at .ensures)) (not-true _ ((c .if2 .taken))) (p .cut ((c .before .before .before .before .before .before .loop .j)) ((c .before .before .before .before .before .loop-test .taken))))
+
+add-j : tie.Need-add-j Inv-loop μ-loop
+add-j c = search needs
+
+loop-less : tie.Need-loop-less Inv-loop μ-loop
+loop-less c = search needs
+
+loop-again : tie.Need-loop-again Inv-loop μ-loop
+loop-again c = (omega arith, λ k l. ⊎-elim (λ q. rw q (sym ((c .before .before .before .before .child-at .ensures .0)) ∙ ((c .before .before .if1 .left) ∙ (c .before .before .before .child-at2 .ensures .0)))) (λ h. (c .before .before .before .before .before .before .loop .inv .1) k h) (laws.last k ((c .before .before .before .before .before .before .loop .j)) l), λ k l. ⊎-elim (λ q. rw q (laws.proved ((c .before .equal-at .ensures)) (not-false _ ((c .if2 .left))))) (λ h. (c .before .before .before .before .before .before .loop .inv .2) k h) (laws.last k ((c .before .before .before .before .before .before .loop .j)) l))
+
+returns-3 : tie.Need-returns-3 Inv-loop μ-loop
+returns-3 c = holds (record { child = λ k l. (c .before .loop .inv .1) k (omega arith); cut = λ k l. (c .before .loop .inv .2) k (omega arith) })
+
+pub same-edges-spec : {M : Type 1} → statement M
+same-edges-spec =
+    tie.close
+    (tie.spec
+    Inv-loop
+    μ-loop
+    loop-holds
+    add-child-at
+    child-at-requires
+    add-child-at-2
+    child-at-requires-2
+    returns
+    add-equal-at
+    add-equal-at-2
+    equal-at-requires
+    returns-2
+    add-j
+    loop-less
+    loop-again
+    returns-3)

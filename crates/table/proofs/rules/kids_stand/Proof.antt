@@ -1,0 +1,91 @@
+-- `rules::kids_stand` meets its contract. Assumes nothing.
+use Prim.Native.Nat.{ℕ, _<_, _≤_, _+_, _-_}
+use mathlib.Core.Path.{_≡_, sym, _∙_, subst}
+use mathlib.Core.Logic.{⊎-elim}
+use native.Mathlib.Omega.{arith}
+use borrow.Author.Needs.{needs}
+use borrow.Author.Tests.{not-true, not-false}
+use Rattle.table.specs.Deciding.{holds, fails}
+use Rattle.table.specs.Layout.{kidAt}
+use Rattle.table.specs.Lent.{Stands}
+use Rattle.table.proofs.Laws as laws
+use denote.Ref.{now}
+use Rattle.table.proofs.rules.kids_stand.Statement.{statement}
+use Rattle.table.proofs.rules.kids_stand.Tie as tie
+
+abbrev Inv-loop : tie.InvT-loop
+Inv-loop nodes children n v e count last₀ j₀ last j = (1 ≤ j) × (j ≤ count) × ((i : ℕ) → i + 1 ≡ j → last ≡ kidAt children (e + i)) × ((k : ℕ) → k < j → Stands nodes n v (kidAt children (e + k))) × ((k : ℕ) → k + 1 < j → kidAt children (e + (k + 1)) ≡ kidAt children (e + k) → ⊥)
+
+abbrev μ-loop : tie.MeasureT-loop
+μ-loop nodes children n v e count last₀ j₀ last j = count - j
+
+child-at-requires : tie.Need-child-at-requires Inv-loop μ-loop
+child-at-requires c κs = search needs
+
+child-stands-requires : tie.Need-child-stands-requires Inv-loop μ-loop
+child-stands-requires c κs = search needs
+
+returns : tie.Need-returns Inv-loop μ-loop
+returns c = fails (λ p. laws.refuted ((c .before .child-stands .ensures)) (not-true _ ((c .if1 .taken))) (subst (Stands (now ((c .before .before .before .before .before .args .nodes))) ((c .before .before .before .before .before .args .n)) ((c .before .before .before .before .before .args .v))) (laws.at (now ((c .before .before .before .before .before .args .children))) ((c .before .before .before .before .before .args .e) + 0) ((c .before .before .before .before .before .args .e)) (omega arith) ∙ sym ((c .before .before .child-at .ensures .0))) (p .stand 0 (omega arith))))
+
+loop-holds : tie.Need-loop-holds Inv-loop μ-loop
+loop-holds c = (
+  omega arith,
+  omega arith,
+  λ i q. (c .before .before .child-at .ensures .0) ∙ laws.at (now ((c .before .before .before .before .before .args .children))) ((c .before .before .before .before .before .args .e)) ((c .before .before .before .before .before .args .e) + i) (omega arith),
+  λ k l. subst (Stands (now ((c .before .before .before .before .before .args .nodes))) ((c .before .before .before .before .before .args .n)) ((c .before .before .before .before .before .args .v))) ((c .before .before .child-at .ensures .0) ∙ laws.at (now ((c .before .before .before .before .before .args .children))) ((c .before .before .before .before .before .args .e)) ((c .before .before .before .before .before .args .e) + k) (omega arith)) (laws.proved ((c .before .child-stands .ensures)) (not-false _ ((c .if1 .left)))),
+  λ k l. absurd (omega arith),
+)
+
+add-child-at : tie.Need-add-child-at Inv-loop μ-loop
+add-child-at c = search needs
+
+child-at-requires-2 : tie.Need-child-at-requires-2 Inv-loop μ-loop
+child-at-requires-2 c κs = search needs
+
+returns-2 : tie.Need-returns-2 Inv-loop μ-loop
+returns-2 c = fails (λ p. let i = (c .before .before .before .loop .j) - 1 in p .differ i (omega arith) (laws.at (now ((c .before .before .before .before .before .before .before .before .before .args .children))) ((c .before .before .before .before .before .before .before .before .before .args .e) + (i + 1)) ((c .before .before .before .before .before .before .before .before .before .args .e) + (c .before .before .before .loop .j)) (omega arith) ∙ (sym ((c .before .child-at2 .ensures .0)) ∙ ((c .if2 .taken) ∙ (c .before .before .before .loop .inv .2) i (omega arith)))))
+
+child-stands-requires-2 : tie.Need-child-stands-requires-2 Inv-loop μ-loop
+child-stands-requires-2 c κs = search needs
+
+returns-3 : tie.Need-returns-3 Inv-loop μ-loop
+returns-3 c = fails (λ p. laws.refuted ((c .before .child-stands2 .ensures)) (not-true _ ((c .if3 .taken))) (subst (Stands (now ((c .before .before .before .before .before .before .before .before .before .before .before .args .nodes))) ((c .before .before .before .before .before .before .before .before .before .before .before .args .n)) ((c .before .before .before .before .before .before .before .before .before .before .before .args .v))) (sym ((c .before .before .before .child-at2 .ensures .0))) (p .stand ((c .before .before .before .before .before .loop .j)) (omega arith))))
+
+add-j : tie.Need-add-j Inv-loop μ-loop
+add-j c = search needs
+
+loop-less : tie.Need-loop-less Inv-loop μ-loop
+loop-less c = search needs
+
+loop-again : tie.Need-loop-again Inv-loop μ-loop
+loop-again c = (
+  omega arith,
+  omega arith,
+  λ i q. (c .before .before .before .child-at2 .ensures .0) ∙ laws.at (now ((c .before .before .before .before .before .before .before .before .before .before .before .args .children))) ((c .before .before .before .before .before .before .before .before .before .before .before .args .e) + (c .before .before .before .before .before .loop .j)) ((c .before .before .before .before .before .before .before .before .before .before .before .args .e) + i) (omega arith),
+  λ k l. ⊎-elim (λ q. rw q (subst (Stands (now ((c .before .before .before .before .before .before .before .before .before .before .before .args .nodes))) ((c .before .before .before .before .before .before .before .before .before .before .before .args .n)) ((c .before .before .before .before .before .before .before .before .before .before .before .args .v))) ((c .before .before .before .child-at2 .ensures .0)) (laws.proved ((c .before .child-stands2 .ensures)) (not-false _ ((c .if3 .left)))))) (λ h. (c .before .before .before .before .before .loop .inv .3) k h) (laws.last k ((c .before .before .before .before .before .loop .j)) l),
+  λ k l q. ⊎-elim (λ x. (c .before .before .if2 .left) ((c .before .before .before .child-at2 .ensures .0) ∙ (laws.at (now ((c .before .before .before .before .before .before .before .before .before .before .before .args .children))) ((c .before .before .before .before .before .before .before .before .before .before .before .args .e) + (c .before .before .before .before .before .loop .j)) ((c .before .before .before .before .before .before .before .before .before .before .before .args .e) + (k + 1)) (omega arith) ∙ (q ∙ sym ((c .before .before .before .before .before .loop .inv .2) k x))))) (λ h. (c .before .before .before .before .before .loop .inv .4) k h q) (laws.last (k + 1) ((c .before .before .before .before .before .loop .j)) l),
+)
+
+returns-4 : tie.Need-returns-4 Inv-loop μ-loop
+returns-4 c = holds (record { stand = λ k l. (c .before .loop .inv .3) k (omega arith); differ = λ k l. (c .before .loop .inv .4) k (omega arith) })
+
+pub kids-stand-spec : {M : Type 1} → statement M
+kids-stand-spec =
+    tie.close
+    (tie.spec
+    Inv-loop
+    μ-loop
+    child-at-requires
+    child-stands-requires
+    returns
+    loop-holds
+    add-child-at
+    child-at-requires-2
+    returns-2
+    child-stands-requires-2
+    returns-3
+    add-j
+    loop-less
+    loop-again
+    returns-4)

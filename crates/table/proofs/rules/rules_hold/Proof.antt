@@ -1,0 +1,143 @@
+-- `rules::rules_hold` meets its contract. Assumes nothing.
+use mathlib.Core.Path.{refl, sym, _∙_}
+use native.Mathlib.Omega.{arith}
+use borrow.Author.Needs.{needs}
+use borrow.Author.Tests.{not-true, not-false}
+use Rattle.table.specs.Deciding.{holds, fails}
+use Rattle.table.specs.Layout.{firstAt}
+use Rattle.table.specs.Indexed.{hashTo}
+use Rattle.table.proofs.Laws as laws
+use Rattle.table.proofs.Levels.{to-document, from-document}
+use denote.Ref.{now}
+use Rattle.table.proofs.rules.rules_hold.Statement.{statement}
+use Rattle.table.proofs.rules.rules_hold.Tie as tie
+
+var-of-requires : tie.Need-var-of-requires
+var-of-requires c κs = search needs
+
+count-of-requires : tie.Need-count-of-requires
+count-of-requires c κs = search needs
+
+first-of-requires : tie.Need-first-of-requires
+first-of-requires c κs = search needs
+
+returns : tie.Need-returns
+returns c = record { decides = fails (λ p. omega (arith, p .known, (c .before .before .before .var-of .ensures .0))); hashed = λ q. absurd (laws.clash refl q); small = omega arith }
+
+returns-2 : tie.Need-returns-2
+returns-2 c = record { decides = fails (λ p. omega (arith, p .many, (c .before .before .before .count-of .ensures .0))); hashed = λ q. absurd (laws.clash refl q); small = omega arith }
+
+returns-3 : tie.Need-returns-3
+returns-3 c = record { decides = fails (λ p. omega (arith, p .most, (c .before .before .before .before .count-of .ensures .0))); hashed = λ q. absurd (laws.clash refl q); small = omega arith }
+
+returns-4 : tie.Need-returns-4
+returns-4 c = record { decides = fails (λ p. (c .if4 .taken) ((c .before .before .before .before .first-of .ensures .0) ∙ (p .packed ∙ sym ((c .before .before .before .before .before .before .before .before .before .pre .1))))); hashed = λ q. absurd (laws.clash refl q); small = omega arith }
+
+sub-if5 : tie.Need-sub-if5
+sub-if5 c = search needs
+
+returns-5 : tie.Need-returns-5
+returns-5 c = record { decides = fails (λ p. omega (arith, p .inside, (c .before .before .before .before .before .before .count-of .ensures .0), (c .before .before .before .before .before .first-of .ensures .0))); hashed = λ q. absurd (laws.clash refl q); small = omega arith }
+
+spare-of-requires : tie.Need-spare-of-requires
+spare-of-requires c κs = search needs
+
+returns-6 : tie.Need-returns-6
+returns-6 c = record { decides = fails (λ p. (c .if6 .taken) ((c .before .spare-of .ensures .0) ∙ p .spare)); hashed = λ q. absurd (laws.clash refl q); small = omega arith }
+
+child-at-requires : tie.Need-child-at-requires
+child-at-requires c κs = search needs
+
+returns-7 : tie.Need-returns-7
+returns-7 c = record { decides = fails (λ p. let f = sym ((c .before .before .before .before .before .before .before .before .before .first-of .ensures .0)) ∙ (c .before .before .before .before .before .if4 .left) in let q = laws.at (now ((c .before .before .before .before .before .before .before .before .before .before .before .before .before .before .args .children))) (firstAt (now ((c .before .before .before .before .before .before .before .before .before .before .before .before .before .before .args .nodes))) ((c .before .before .before .before .before .before .before .before .before .before .before .before .before .before .args .n))) ((c .before .before .before .before .before .before .before .before .before .before .before .before .before .before .args .e)) f in (c .if7 .taken) (omega (arith, q, p .plain, (c .before .child-at .ensures .0)))); hashed = λ q. absurd (laws.clash refl q); small = omega arith }
+
+pass-requires : tie.Need-pass-requires
+pass-requires c κs = (omega arith, omega arith, omega arith, omega arith, omega arith, (c .before .before .before .before .before .before .before .before .before .before .before .before .before .before .before .pre .3))
+
+returns-8 : tie.Need-returns-8
+returns-8 c = let v = (c .before .before .before .before .before .before .before .before .before .before .before .before .before .var-of .ensures .0) in let f = sym ((c .before .before .before .before .before .before .before .if4 .left)) ∙ (c .before .before .before .before .before .before .before .before .before .before .before .first-of .ensures .0) in let k = (c .before .before .before .before .before .before .before .before .before .before .before .before .count-of .ensures .0) in
+    let q = laws.at (now ((c .before .before .before .before .before .before .before .before .before .before .before .before .before .before .before .before .args .children))) (firstAt (now ((c .before .before .before .before .before .before .before .before .before .before .before .before .before .before .before .before .args .nodes))) ((c .before .before .before .before .before .before .before .before .before .before .before .before .before .before .before .before .args .n))) ((c .before .before .before .before .before .before .before .before .before .before .before .before .before .before .before .before .args .e)) (sym f) in let w = (c .before .before .before .child-at .ensures .0) in let z = (c .before .before .if7 .left) in let i5 = (c .before .before .before .before .before .before .if5 .left) in
+    record {
+      decides = laws.to ((c .pass .ensures .decides)) (λ p. record {
+        known = omega arith;
+        many = omega arith;
+        most = omega arith;
+        two = λ h. absurd (omega arith);
+        spare = sym ((c .before .before .before .before .before .spare-of .ensures .0)) ∙ (c .before .before .before .before .if6 .left);
+        packed = sym f ∙ (c .before .before .before .before .before .before .before .before .before .before .before .before .before .before .before .before .pre .1);
+        inside = omega arith;
+        plain = omega arith;
+        edges = laws.kids-at v f k (p .0);
+        ranges = λ h. to-document _ _ _ (laws.rising-at f k (p .1));
+        booleans = λ h. absurd (omega arith);
+      })
+          (λ p. (laws.kids-at (sym v) (sym f) (sym k) (p .edges), laws.rising-at (sym f) (sym k) (from-document _ _ _ (p .ranges (omega arith)))));
+      hashed = λ o. (c .pass .ensures .hashed) o ∙ (λ i. hashTo (now ((c .before .before .before .before .before .before .before .before .before .before .before .before .before .before .before .before .args .children))) (now ((c .before .before .before .before .before .before .before .before .before .before .before .before .before .before .before .before .args .cuts))) (v i) (f i) (k i));
+      small = (c .pass .ensures .small);
+    }
+
+returns-9 : tie.Need-returns-9
+returns-9 c = record { decides = fails (λ p. let v = (c .before .before .before .before .before .before .before .before .before .before .before .before .before .var-of .ensures .0) in (c .if9 .taken) ((c .before .before .before .before .before .before .before .before .before .before .before .before .count-of .ensures .0) ∙ p .two (omega arith))); hashed = λ q. absurd (laws.clash refl q); small = omega arith }
+
+kids-stand-requires : tie.Need-kids-stand-requires
+kids-stand-requires c κs = (omega arith, omega arith, omega arith, omega arith, omega arith)
+
+returns-10 : tie.Need-returns-10
+returns-10 c = record { decides = fails (λ p. laws.refuted ((c .before .kids-stand .ensures)) (not-true _ ((c .if10 .taken))) (laws.kids-at (sym ((c .before .before .before .before .before .before .before .before .before .before .before .before .before .before .before .var-of .ensures .0))) (sym ((c .before .before .before .before .before .before .before .before .before .before .before .before .before .first-of .ensures .0)) ∙ (c .before .before .before .before .before .before .before .before .before .if4 .left)) (sym ((c .before .before .before .before .before .before .before .before .before .before .before .before .before .before .count-of .ensures .0))) (p .edges))); hashed = λ q. absurd (laws.clash refl q); small = omega arith }
+
+cuts-blank-requires : tie.Need-cuts-blank-requires
+cuts-blank-requires c κs = search needs
+
+returns-11 : tie.Need-returns-11
+returns-11 c = let v = (c .before .before .before .before .before .before .before .before .before .before .before .before .before .before .before .before .before .var-of .ensures .0) in record { decides = fails (λ p. laws.refuted ((c .before .cuts-blank .ensures)) (not-true _ ((c .if11 .taken))) (laws.blank-at (sym ((c .before .before .before .before .before .before .before .before .before .before .before .before .before .before .before .first-of .ensures .0)) ∙ (c .before .before .before .before .before .before .before .before .before .before .before .if4 .left)) (p .booleans (omega arith)))); hashed = λ q. absurd (laws.clash refl q); small = omega arith }
+
+hash-of-requires : tie.Need-hash-of-requires
+hash-of-requires c κs = ((c .before .before .before .before .before .before .before .before .before .before .before .before .before .before .before .before .before .var-of .ensures .1), omega arith, omega arith, (c .before .before .before .before .before .before .before .before .before .before .before .before .before .before .before .before .before .before .before .before .pre .3))
+
+returns-12 : tie.Need-returns-12
+returns-12 c = let v = (c .before .before .before .before .before .before .before .before .before .before .before .before .before .before .before .before .before .before .var-of .ensures .0) in let f = sym ((c .before .before .before .before .before .before .before .before .before .before .before .before .if4 .left)) ∙ (c .before .before .before .before .before .before .before .before .before .before .before .before .before .before .before .before .first-of .ensures .0) in let k = (c .before .before .before .before .before .before .before .before .before .before .before .before .before .before .before .before .before .count-of .ensures .0) in
+    let q = laws.at (now ((c .before .before .before .before .before .before .before .before .before .before .before .before .before .before .before .before .before .before .before .before .before .args .children))) (firstAt (now ((c .before .before .before .before .before .before .before .before .before .before .before .before .before .before .before .before .before .before .before .before .before .args .nodes))) ((c .before .before .before .before .before .before .before .before .before .before .before .before .before .before .before .before .before .before .before .before .before .args .n))) ((c .before .before .before .before .before .before .before .before .before .before .before .before .before .before .before .before .before .before .before .before .before .args .e)) (sym f) in let w = (c .before .before .before .before .before .before .before .before .child-at .ensures .0) in let z = (c .before .before .before .before .before .before .before .if7 .left) in let i5 = (c .before .before .before .before .before .before .before .before .before .before .before .if5 .left) in
+    record {
+      decides = holds (record {
+        known = omega arith;
+        many = omega arith;
+        most = omega arith;
+        two = λ h. sym k ∙ (c .before .before .before .before .before .if9 .left);
+        spare = sym ((c .before .before .before .before .before .before .before .before .before .before .spare-of .ensures .0)) ∙ (c .before .before .before .before .before .before .before .before .before .if6 .left);
+        packed = sym f ∙ (c .before .before .before .before .before .before .before .before .before .before .before .before .before .before .before .before .before .before .before .before .before .pre .1);
+        inside = omega arith;
+        plain = omega arith;
+        edges = laws.kids-at v f k (laws.proved ((c .before .before .before .before .kids-stand .ensures)) (not-false _ ((c .before .before .before .if10 .left))));
+        ranges = λ h. absurd (omega arith);
+        booleans = λ h. laws.blank-at f (laws.proved ((c .before .before .cuts-blank .ensures)) (not-false _ ((c .before .if11 .left))));
+      });
+      hashed = λ o. (c .hash-of .ensures .0) ∙ (λ i. hashTo (now ((c .before .before .before .before .before .before .before .before .before .before .before .before .before .before .before .before .before .before .before .before .before .args .children))) (now ((c .before .before .before .before .before .before .before .before .before .before .before .before .before .before .before .before .before .before .before .before .before .args .cuts))) (v i) (f i) (k i));
+      small = (c .hash-of .ensures .1);
+    }
+
+pub rules-hold-spec : {M : Type 1} → statement M
+rules-hold-spec =
+    tie.close
+    (tie.spec
+    var-of-requires
+    count-of-requires
+    first-of-requires
+    returns
+    returns-2
+    returns-3
+    returns-4
+    sub-if5
+    returns-5
+    spare-of-requires
+    returns-6
+    child-at-requires
+    returns-7
+    pass-requires
+    returns-8
+    returns-9
+    kids-stand-requires
+    returns-10
+    cuts-blank-requires
+    returns-11
+    hash-of-requires
+    returns-12)

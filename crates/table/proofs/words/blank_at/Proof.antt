@@ -1,0 +1,25 @@
+-- `words::blank_at` meets its contract. Assumes nothing.
+use mathlib.Core.Path.{sym, _∙_}
+use borrow.Author.Needs.{needs}
+use Rattle.table.specs.Layout.{cutAt}
+use Rattle.table.proofs.Laws as laws
+use denote.Ref.{now}
+use mir.Syntax.{w64}
+use mir.ValLaws.{toZ-ofZ}
+use Rattle.table.proofs.words.blank_at.Statement.{statement}
+use Rattle.table.proofs.words.blank_at.Tie as tie
+
+mul-z : tie.Need-mul-z
+mul-z c = search needs
+
+shared-slice-copy-out-z : tie.Need-shared-slice-copy-out-z
+shared-slice-copy-out-z c = search needs
+
+blank-requires : tie.Need-blank-requires
+blank-requires c κs = search needs
+
+returns : tie.Need-returns
+returns c = let e = toZ-ofZ w64 (cutAt (now ((c .before .before .args .cuts))) ((c .before .before .args .i))) (record { sfits = (c .before .z .given) }) in laws.to ((c .blank .ensures)) (λ p. sym e ∙ p) (λ p. e ∙ p)
+
+pub blank-at-spec : {M : Type 1} → statement M
+blank-at-spec = tie.close (tie.spec mul-z shared-slice-copy-out-z blank-requires returns)

@@ -1,0 +1,17 @@
+-- `words::equal` meets its contract. Assumes nothing.
+use mathlib.Core.Path.{ap}
+use Rattle.table.specs.Deciding.{holds, fails}
+use Rattle.table.proofs.Laws as laws
+use mir.Syntax.{w64}
+use mir.Val.{ofZ}
+use Rattle.table.proofs.words.equal.Statement.{statement}
+use Rattle.table.proofs.words.equal.Tie as tie
+
+returns : tie.Need-returns
+returns c = holds (laws.same-bits ((c .before .fits .y)) ((c .before .fits .z)) ((c .if1 .taken)))
+
+returns-2 : tie.Need-returns-2
+returns-2 c = fails (λ p. (c .if1 .left) (ap (ofZ w64) p))
+
+pub equal-spec : {M : Type 1} → statement M
+equal-spec = tie.close (tie.spec returns returns-2)

@@ -1,0 +1,18 @@
+-- `words::one_at` meets its contract. Assumes nothing.
+use native.Mathlib.Omega.{arith}
+use borrow.Author.Needs.{needs}
+use Rattle.table.proofs.Laws as laws
+use Rattle.table.proofs.words.one_at.Statement.{statement}
+use Rattle.table.proofs.words.one_at.Tie as tie
+
+blank-at-requires : tie.Need-blank-at-requires
+blank-at-requires c κs = search needs
+
+returns : tie.Need-returns
+returns c = (omega arith, laws.given-yes (laws.proved ((c .before .blank-at .ensures)) ((c .if1 .taken))))
+
+returns-2 : tie.Need-returns-2
+returns-2 c = (omega arith, laws.given-no (laws.refuted ((c .before .blank-at .ensures)) ((c .if1 .left))))
+
+pub one-at-spec : {M : Type 1} → statement M
+one-at-spec = tie.close (tie.spec blank-at-requires returns returns-2)

@@ -1,0 +1,93 @@
+-- What the functions behind the calls decide on the way. A reader of the promises needs none of it. Assumes nothing.
+use mathlib.Core.Path.{_≡_}
+use mathlib.Core.Bool.{Bool, true, false, cond}
+use mathlib.Core.List.{List}
+use Prim.Native.Nat.{ℕ, zero, suc, _+_, _-_, _*_, _≤_, _<_, _^_}
+use lib.ListN.{getD}
+use lib.IntN.{ℤ, pos}
+use Rattle.diagram.specs.Pieces.{select}
+use Rattle.diagram.specs.Table.{firstBoolean, isRange, Assignment}
+use Rattle.table.specs.Deciding.{Decides}
+use Rattle.table.specs.Layout.{varAt, countAt, firstAt, kidAt, cutAt, room, start, level}
+use Rattle.table.specs.Indexed.{hashTo, bucketAt}
+use Rattle.table.specs.Lent.{KidsStand, Rules, SameRecord, SoundLent}
+use Rattle.table.specs.Held.{edgesFrom, edgesAt}
+use Rattle.table.specs.Told.{bit}
+
+-- What cut j of a node has to be above: the cut before it; the first has only to be a cut.
+abbrev pub below : List ℤ → ℕ → ℕ → ℕ
+below cuts e zero = 0
+below cuts e (suc j) = level (cutAt cuts (e + j))
+
+-- `Cuts`, by positions.
+pub record Climbs (cuts : List ℤ) (e count : ℕ) : Type 0 where
+  pub rise : (j : ℕ) → j + 1 < count → below cuts e j < level (cutAt cuts (e + j))
+  pub last : cutAt cuts (e + (count - 1)) ≡ pos 0
+
+-- One pass over a range node's edges: whether they keep the rules, and then their hash.
+pub record Passes (nodes children : List ℕ) (cuts : List ℤ) (n v e count : ℕ) (ok : Bool) (hash : ℕ) : Type 0 where
+  pub decides : Decides (KidsStand nodes children n v e count × Climbs cuts e count) ok
+  pub hashed : ok ≡ true → hash ≡ hashTo children cuts v e count
+  pub small : hash < 2 ^ 32
+
+-- Whether record n keeps the rules, and then its hash.
+pub record Keeps (nodes children : List ℕ) (cuts : List ℤ) (n : ℕ) (ok : Bool) (hash : ℕ) : Type 0 where
+  pub decides : Decides (Rules nodes children cuts n) ok
+  pub hashed : ok ≡ true → hash ≡ hashTo children cuts (varAt nodes n) (firstAt nodes n) (countAt nodes n)
+  pub small : hash < 2 ^ 32
+
+-- How many of the first n words are not 0.
+abbrev pub some : ℕ → ℕ
+some zero = 0
+some (suc n) = 1
+
+unfoldable pub tally : (ℕ → ℕ) → ℕ → ℕ
+tally F zero = 0
+tally F (suc n) = tally F n + some (F n)
+
+-- The first n words of the index are at most u, and u of them are not 0.
+pub record Tallied (index : List ℕ) (n u : ℕ) : Type 0 where
+  pub small : (i : ℕ) → i < n → getD index i 0 ≤ u
+  pub full : tally (λ (i : ℕ). getD index i 0) n ≡ u
+
+-- A falling walk along the nexts leads from x to y.
+pub data Down (index : List ℕ) (r : ℕ) : ℕ → ℕ → Type 0 where
+  here : {x : ℕ} → Down index r x x
+  there : {k y : ℕ} → getD index (r + k) 0 ≤ k → Down index r (getD index (r + k) 0) y → Down index r (suc k) y
+
+pub record Linked (nodes children : List ℕ) (cuts : List ℤ) (index : List ℕ) (n : ℕ) : Type 0 where
+  pub before : getD index (room nodes + n) 0 ≤ n
+  pub reached : Down index (room nodes) (getD index (bucketAt nodes children cuts n) 0) (suc n)
+
+-- Record n extends the table of the n records before it.
+pub record ExtendsAt (nodes children : List ℕ) (cuts : List ℤ) (index : List ℕ) (n : ℕ) : Type 0 where
+  pub rules : Rules nodes children cuts n
+  pub linked : Linked nodes children cuts index n
+  pub single : (m : ℕ) → m < n → SameRecord nodes children cuts m n → ⊥
+
+-- Nothing lies behind u nodes and e edges, and the index has u words that are not 0.
+pub record Rest (nodes children : List ℕ) (cuts : List ℤ) (index : List ℕ) (u e : ℕ) : Type 0 where
+  pub no-node : (i : ℕ) → u * 4 ≤ i → getD nodes i 0 ≡ 0
+  pub no-child : (i : ℕ) → e ≤ i → kidAt children i ≡ 0
+  pub no-cut : (i : ℕ) → e ≤ i → cutAt cuts i ≡ pos 0
+  pub no-next : (i : ℕ) → room nodes + u ≤ i → getD index i 0 ≡ 0
+  pub tallied : Tallied index (room nodes + u) u
+
+-- The check's answer: sound with that many nodes and edges, or not sound whatever the number of nodes.
+pub data Judges (nodes children : List ℕ) (cuts : List ℤ) (index : List ℕ) (u e : ℕ) : Bool → Type 0 where
+  sound : SoundLent nodes children cuts index u → e ≡ start nodes u → Judges nodes children cuts index u e true
+  unsound : ((u : ℕ) → SoundLent nodes children cuts index u → ⊥) → Judges nodes children cuts index u e false
+
+-- A reading as a position for each variable.
+unfoldable pub spots : List ℤ → ℕ → Assignment
+spots places bools v = cond (isRange v) (level (cutAt places v)) (1 - bit bools (v - firstBoolean))
+
+-- The child that a scan of the edges chooses,
+pub record Chosen (children : List ℕ) (cuts : List ℤ) (e count p r : ℕ) : Type 0 where
+  pub right : r ≡ select (edgesFrom children cuts e (count - 1)) p
+  pub among : (b : ℕ) → ((j : ℕ) → j < count → kidAt children (e + j) < b) → r < b
+
+-- and that node n has there.
+pub record Next (nodes children : List ℕ) (cuts : List ℤ) (α : Assignment) (n r : ℕ) : Type 0 where
+  pub right : r ≡ select (edgesAt children cuts (varAt nodes n) (firstAt nodes n) (countAt nodes n)) (α (varAt nodes n))
+  pub earlier : r < n * 2 + 2

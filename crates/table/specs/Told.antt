@@ -1,0 +1,83 @@
+-- What each call answers, for every input: a case for each row of document 01, "When the kernel is told no", by its number. Assumes
+-- nothing.
+use mathlib.Core.Path.{_≡_}
+use mathlib.Core.Bool.{Bool, true, false, cond}
+use mathlib.Core.List.{List}
+use Prim.Native.Nat.{ℕ, _-_, _/_, _%_, _<_, _^_}
+use lib.Dec.{eqb}
+use lib.ListN.{length, replicate}
+use lib.IntN.{ℤ, pos}
+use lib.Signed.{leZ-yes}
+use borrow.Author.Tests.{ltb-true}
+use Rattle.ids.specs.Index.{KnownTo}
+use Rattle.ranges.specs.Line.{Place}
+use Rattle.diagram.specs.Table.{firstBoolean, isRange}
+use Rattle.diagram.specs.Reading.{Reading, says}
+use Rattle.table.specs.Layout.{cutAt, start, Lengths}
+use Rattle.table.specs.Lent.{SoundLent}
+use Rattle.table.specs.Held.{held}
+
+-- The numbers of the table in document 01.
+abbrev pub done : ℕ
+done = 0
+
+abbrev pub wrongRoom : ℕ
+wrongRoom = 1
+
+abbrev pub notSound : ℕ
+notSound = 2
+
+abbrev pub unknownId : ℕ
+unknownId = 3
+
+abbrev pub beyondPlaces : ℕ
+beyondPlaces = 5
+
+-- A lent table as the calls get it: its lengths allowed,
+abbrev pub Allowed : List ℕ → List ℕ → List ℤ → List ℕ → Type 0
+Allowed nodes children cuts index = Lengths (length nodes) (length children) (length cuts) (length index)
+
+-- and sound with no number of records.
+abbrev pub Unsound : List ℕ → List ℕ → List ℤ → List ℕ → Type 0
+Unsound nodes children cuts index = (u : ℕ) → SoundLent nodes children cuts index u → ⊥
+
+-- The check of a table: its number, and the used counts of a sound one. It changes nothing.
+pub data Checks (nodes children : List ℕ) (cuts : List ℤ) (index : List ℕ) : ℕ → ℕ → ℕ → Type 0 where
+  checked-1 : (Allowed nodes children cuts index → ⊥) → Checks nodes children cuts index wrongRoom 0 0
+  checked-2 : Allowed nodes children cuts index → Unsound nodes children cuts index → Checks nodes children cuts index notSound 0 0
+  checked-0 : Allowed nodes children cuts index → (u : ℕ) → SoundLent nodes children cuts index u → Checks nodes children cuts index done u (start nodes u)
+
+-- Making an empty table "in lent room, whatever the room held": every word is zero after it, or every word is as it was.
+pub data Freshens (nodes children : List ℕ) (cuts : List ℤ) (index : List ℕ) : ℕ → List ℕ → List ℕ → List ℤ → List ℕ → Type 0 where
+  freshened-1 : (Allowed nodes children cuts index → ⊥) → Freshens nodes children cuts index wrongRoom nodes children cuts index
+  freshened-0 : Allowed nodes children cuts index
+      → Freshens nodes children cuts index done (replicate (length nodes) 0) (replicate (length children) 0) (replicate (length cuts) (pos 0)) (replicate (length index) 0)
+
+-- "32 places and 32 booleans": a list of 32 places, and the bits of a number.
+abbrev pub Places : List ℤ → Type 0
+Places places = (v : ℕ) → v < firstBoolean → Place (cutAt places v)
+
+abbrev pub bit : ℕ → ℕ → ℕ
+bit w k = w / 2 ^ k % 2
+
+abbrev pub readingOf : (places : List ℤ) → ℕ → Places places → Reading
+readingOf places bools ok = record {
+  place = λ v. cond (isRange v) (cutAt places v) (pos 0);
+  holds = λ v. eqb (bit bools (v - firstBoolean)) 1;
+  within = λ v. placed v (isRange v) (λ e. ok v (ltb-true v firstBoolean e));
+}
+  where
+    placed : (v : ℕ) (b : Bool) → (b ≡ true → Place (cutAt places v)) → Place (cond b (cutAt places v) (pos 0))
+    placed v true f = f (λ i. true)
+    placed v false f = (leZ-yes tt, leZ-yes tt)
+
+-- Reading an id: the number, and the answer beside 0. It changes nothing.
+pub data Hears (nodes children : List ℕ) (cuts : List ℤ) (index : List ℕ) (places : List ℤ) (bools id : ℕ) : ℕ → Bool → Type 0 where
+  heard-1 : (Allowed nodes children cuts index × (length places ≡ firstBoolean) → ⊥) → Hears nodes children cuts index places bools id wrongRoom false
+  heard-2 : Allowed nodes children cuts index × (length places ≡ firstBoolean) → Unsound nodes children cuts index → Hears nodes children cuts index places bools id notSound false
+  heard-3 : Allowed nodes children cuts index × (length places ≡ firstBoolean) → (u : ℕ) → SoundLent nodes children cuts index u → (KnownTo u id → ⊥)
+      → Hears nodes children cuts index places bools id unknownId false
+  heard-5 : Allowed nodes children cuts index × (length places ≡ firstBoolean) → (u : ℕ) → SoundLent nodes children cuts index u → KnownTo u id → (Places places → ⊥)
+      → Hears nodes children cuts index places bools id beyondPlaces false
+  heard-0 : Allowed nodes children cuts index × (length places ≡ firstBoolean) → (u : ℕ) → SoundLent nodes children cuts index u → KnownTo u id → (ok : Places places)
+      → Hears nodes children cuts index places bools id done (says (held nodes children cuts u) (readingOf places bools ok) id)
