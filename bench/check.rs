@@ -1,0 +1,559 @@
+// The speed of the check of a lent table, on full tables, small ones, empty ones, and tables built to be slow. bench/run runs it.
+use lent::table::calls::check;
+use std::collections::{HashMap, HashSet};
+use std::hint::black_box;
+use std::time::{Duration, Instant};
+
+const A: u64 = 1640531527;
+const B: u64 = 805459861;
+const M: u64 = 1 << 32;
+const ZERO: u64 = 4294967297; // the level of cut 0
+
+struct Rng(u64);
+impl Rng {
+    fn next(&mut self) -> u64 {
+        self.0 = self.0.wrapping_add(0x9E3779B97F4A7C15);
+        let mut z = self.0;
+        z = (z ^ (z >> 30)).wrapping_mul(0xBF58476D1CE4E5B9);
+        z = (z ^ (z >> 27)).wrapping_mul(0x94D049BB133111EB);
+        z ^ (z >> 31)
+    }
+    fn below(&mut self, n: usize) -> usize {
+        (self.next() % n as u64) as usize
+    }
+}
+
+fn level(z: i64) -> u64 {
+    if z < -4294967296 || z > 4294967295 {
+        0
+    } else {
+        (z + 4294967297) as u64
+    }
+}
+fn mix(h: u64, c: u32, k: u64) -> u64 {
+    (h * A + c as u64 * B + k) % M
+}
+fn inv_a() -> u64 {
+    let mut x = 1u64;
+    for _ in 0..6 {
+        x = x.wrapping_mul(2u64.wrapping_sub(A.wrapping_mul(x))) % M;
+    }
+    assert_eq!(A * x % M, 1);
+    x
+}
+
+#[derive(Clone, PartialEq, Eq, Hash)]
+struct Node {
+    var: u32,
+    kids: Vec<u32>,
+    cuts: Vec<i64>,
+} // cuts.len() == kids.len(), the last 0
+
+fn hash(n: &Node) -> u64 {
+    let mut h = n.var as u64;
+    for (c, z) in n.kids.iter().zip(&n.cuts) {
+        h = mix(h, *c, level(*z));
+    }
+    h
+}
+
+#[derive(Clone)]
+struct Table {
+    nodes: Vec<u32>,
+    children: Vec<u32>,
+    cuts: Vec<i64>,
+    index: Vec<u32>,
+    used: usize,
+    edges: usize,
+}
+
+// Lays nodes out, and builds the index from its definition: the last of each bucket, the last before each node in its bucket.
+fn lay(list: &[Node], room: usize, eroom: usize) -> Table {
+    let mut t = Table {
+        nodes: vec![0; room * 4],
+        children: vec![0; eroom],
+        cuts: vec![0; eroom],
+        index: vec![0; room * 2],
+        used: list.len(),
+        edges: 0,
+    };
+    for (n, x) in list.iter().enumerate() {
+        t.nodes[n * 4] = x.var;
+        t.nodes[n * 4 + 1] = x.kids.len() as u32;
+        t.nodes[n * 4 + 2] = t.edges as u32;
+        for (c, z) in x.kids.iter().zip(&x.cuts) {
+            t.children[t.edges] = *c;
+            t.cuts[t.edges] = *z;
+            t.edges += 1;
+        }
+        let b = (hash(x) * room as u64 / M) as usize;
+        t.index[room + n] = t.index[b];
+        t.index[b] = n as u32 + 1;
+    }
+    t
+}
+
+fn rising(r: &mut Rng, many: usize) -> Vec<i64> {
+    let mut s = std::collections::BTreeSet::new();
+    while s.len() < many {
+        s.insert((r.next() % (1 << 33)) as i64 - (1 << 32));
+    }
+    s.into_iter().collect()
+}
+
+// Random sound nodes that fill room and edges exactly. Half booleans (2 edges), half ranges (2 to 10), or per `shape`.
+// order: false: by variable, descending; true: variables in no order (a child is any earlier node with a later variable).
+fn random(seed: u64, room: usize, edges: usize, mixed: bool) -> Vec<Node> {
+    let mut r = Rng(seed);
+    let mut left = edges;
+    let mut counts: Vec<usize> = vec![];
+    let mut vars: Vec<u32> = vec![];
+    for i in 0..room {
+        if i < room / 2 {
+            counts.push(2);
+            vars.push(63 - (i * 32 / (room / 2)) as u32);
+        } else {
+            counts.push(2 + r.below(9));
+            vars.push(31 - ((i - room / 2) * 32 / (room - room / 2)) as u32);
+        }
+    }
+    // exactly full
+    loop {
+        let sum: usize = counts.iter().sum();
+        if sum == left {
+            break;
+        }
+        let i = room / 2 + r.below(room - room / 2);
+        if sum < left && counts[i] < 64 {
+            counts[i] += 1
+        } else if sum > left && counts[i] > 2 {
+            counts[i] -= 1
+        }
+    }
+    left = 0;
+    let _ = left;
+    let mut order: Vec<usize> = (0..room).collect();
+    if mixed {
+        for i in (1..room).rev() {
+            let j = r.below(i + 1);
+            order.swap(i, j);
+        }
+    }
+    let mut seen = HashSet::new();
+    let mut list: Vec<Node> = vec![];
+    for &o in &order {
+        let mut var = vars[o];
+        let count = counts[o];
+        let mut tries = 0;
+        loop {
+            tries += 1;
+            if tries % 50 == 0 {
+                // too few distinct records of this variable here: an earlier variable
+                var = if var >= 32 {
+                    if var > 32 {
+                        var - 1
+                    } else {
+                        63
+                    }
+                } else if var > 0 {
+                    var - 1
+                } else {
+                    31
+                };
+            }
+            let from: Vec<u32> = list
+                .iter()
+                .enumerate()
+                .filter(|(_, x)| x.var > var)
+                .map(|(i, _)| i as u32)
+                .collect();
+            let mut kids: Vec<u32> = vec![];
+            while kids.len() < count {
+                let mut c = if from.is_empty() || r.below(4) == 0 {
+                    r.below(2) as u32
+                } else {
+                    (from[r.below(from.len())] + 1) * 2 + r.below(2) as u32
+                };
+                if kids.is_empty() {
+                    c &= !1;
+                }
+                if kids.last() != Some(&c) {
+                    kids.push(c);
+                }
+            }
+            let mut cuts = if var < 32 {
+                rising(&mut r, count - 1)
+            } else {
+                vec![0; count - 1]
+            };
+            cuts.push(0);
+            let x = Node { var, kids, cuts };
+            if seen.insert(x.clone()) {
+                list.push(x);
+                break;
+            }
+        }
+    }
+    list
+}
+
+// The cuts that, as last cut of this prefix and before this last child, bring a node of `room` into bucket b, above `low`: the i-th found.
+struct Solver {
+    inv: u64,
+    room: u64,
+    b: u64,
+    t: u64,
+}
+impl Solver {
+    fn new(room: usize, b: u64) -> Solver {
+        let room = room as u64;
+        Solver {
+            inv: inv_a(),
+            room,
+            b,
+            t: 0,
+        }
+    }
+    fn cut(&mut self, h: u64, c: u32, last: u32, low: u64) -> Option<i64> {
+        // hash = (h2 * A + last * B + ZERO) mod M = t, h2 = (h * A + c * B + x) mod M
+        let lo = (self.b * M + self.room - 1) / self.room;
+        let hi = ((self.b + 1) * M + self.room - 1) / self.room;
+        for _ in 0..1000000u32 {
+            let t = lo + self.t % (hi - lo);
+            let high = (self.t / (hi - lo)) % 2;
+            self.t += 1;
+            let h2 = (t + M - (last as u64 * B + ZERO) % M) % M * self.inv % M;
+            let mut x = (h2 + M - (h * A + c as u64 * B) % M) % M + high * M;
+            if x == 0 {
+                x = 2 * M;
+            }
+            if x > low && x <= 2 * M {
+                return Some(x as i64 - ZERO as i64);
+            }
+            if high == 0 && x + M > low && x + M <= 2 * M {
+                return Some((x + M) as i64 - ZERO as i64);
+            }
+        }
+        None
+    }
+}
+
+// Spread of the worst cases: how many values each place of a record may have, before the last cut, which is solved for.
+#[derive(Clone, Default)]
+struct Spread {
+    vars: usize,
+    counts: Vec<usize>,
+    cut: Vec<usize>,
+}
+
+// many nodes in one bucket of `room`; records agree but for the spread, and the last cut.
+fn one_bucket(seed: u64, many: usize, room: usize, sp: &Spread) -> Vec<Node> {
+    let mut r = Rng(seed);
+    let mut s = Solver::new(room, room as u64 / 2);
+    let mut seen = HashSet::new();
+    let mut list = vec![];
+    for n in 0..many {
+        let count = sp.counts[if sp.counts.len() > 1 {
+            r.below(sp.counts.len())
+        } else {
+            0
+        }];
+        let _ = n;
+        let var = if sp.vars > 1 {
+            r.below(sp.vars) as u32
+        } else {
+            0
+        };
+        let kids: Vec<u32> = (0..count).map(|j| j as u32 % 2).collect();
+        let mut h = var as u64;
+        let mut low = 0u64;
+        let mut cuts: Vec<i64> = vec![];
+        for j in 0..count.saturating_sub(2) {
+            let w = *sp.cut.get(j).unwrap_or(&1);
+            let x = 1 + 10000 * j as u64 + r.below(w) as u64;
+            h = mix(h, kids[j], x);
+            low = x;
+            cuts.push(x as i64 - ZERO as i64);
+        }
+        loop {
+            let z = s
+                .cut(h, kids[count - 2], kids[count - 1], low)
+                .expect("a cut");
+            let mut c = cuts.clone();
+            c.push(z);
+            c.push(0);
+            let x = Node {
+                var,
+                kids: kids.clone(),
+                cuts: c,
+            };
+            assert_eq!(hash(&x) * room as u64 / M, room as u64 / 2);
+            if seen.insert(x.clone()) {
+                list.push(x);
+                break;
+            }
+        }
+    }
+    list
+}
+
+fn time(name: &str, t: &Table, want: u32, secs: f64) {
+    let (n, c, z, i) = (&t.nodes[..], &t.children[..], &t.cuts[..], &t.index[..]);
+    let r = check(n, c, z, i);
+    assert_eq!(r.number, want, "{name}");
+    if cfg!(nocounts) {
+    } else if want == 0 {
+        assert_eq!((r.nodes, r.edges), (t.used, t.edges), "{name}");
+    } else {
+        assert_eq!((r.nodes, r.edges), (0, 0));
+    }
+    let mut best = Duration::MAX;
+    let start = Instant::now();
+    let mut runs = 0u64;
+    // one check a sample, and where it is short, many
+    let mut inner = 1u32;
+    while runs < 5 || start.elapsed().as_secs_f64() < secs {
+        let a = Instant::now();
+        for _ in 0..inner {
+            black_box(check(black_box(n), black_box(c), black_box(z), black_box(i)).number);
+        }
+        let d = a.elapsed();
+        if d < Duration::from_micros(20) {
+            inner *= 2;
+            continue;
+        }
+        best = best.min(d / inner);
+        runs += 1;
+    }
+    let ns = best.as_nanos() as f64;
+    let per = if t.edges > 0 {
+        format!("{:9.2}", ns / t.edges as f64)
+    } else {
+        "        -".into()
+    };
+    let mut longest = HashMap::new();
+    let room = t.nodes.len() / 4;
+    for n in 0..t.used {
+        let e = t.nodes[n * 4 + 2] as usize;
+        let k = t.nodes[n * 4 + 1] as usize;
+        if e + k > t.children.len() {
+            continue;
+        }
+        let mut h = t.nodes[n * 4] as u64;
+        for j in e..e + k {
+            h = mix(h, t.children[j], level(t.cuts[j]));
+        }
+        *longest.entry(h * room as u64 / M).or_insert(0) += 1;
+    }
+    println!("{name:58} -> {want}  {:5} nodes {:6} edges  chain {:4}  {:11.2} us {per} ns/edge  ({runs} samples)", t.used, t.edges, longest.values().max().unwrap_or(&0), ns / 1000.0);
+}
+
+// Several tables in turn, so that the branch predictor has not learnt the one table by heart. Time of one check, the mean of a round.
+fn turns(name: &str, ts: &[Table], secs: f64) {
+    let mut best = Duration::MAX;
+    let start = Instant::now();
+    let mut runs = 0u64;
+    while runs < 5 || start.elapsed().as_secs_f64() < secs {
+        let a = Instant::now();
+        for t in ts {
+            let r = check(
+                black_box(&t.nodes[..]),
+                black_box(&t.children[..]),
+                black_box(&t.cuts[..]),
+                black_box(&t.index[..]),
+            );
+            assert!(r.number == 0);
+            black_box(r.edges);
+        }
+        best = best.min(a.elapsed());
+        runs += 1;
+    }
+    let ns = best.as_nanos() as f64 / ts.len() as f64;
+    println!("{name:58} -> 0  {:5} nodes {:6} edges              {:11.2} us {:9.2} ns/edge  ({runs} rounds)", ts[0].used, ts[0].edges, ns / 1000.0, ns / ts[0].edges as f64);
+}
+
+fn main() {
+    let args: Vec<String> = std::env::args().collect();
+    let secs: f64 = args.get(1).map(|s| s.parse().unwrap()).unwrap_or(1.0);
+    let filter = args.get(2).cloned().unwrap_or_default();
+    let go = |name: &str, t: &Table, want: u32| {
+        if name.starts_with(&filter) {
+            time(name, t, want, secs)
+        }
+    };
+    let (room, er) = (4096, 16384);
+
+    let a1 = lay(&random(1, room, er, false), room, er);
+    let a2 = lay(&random(2, room, er, true), room, er);
+    assert!(a1.edges == er && a2.edges == er);
+    go("a1 random, full, variables descending", &a1, 0);
+    go("a2 random, full, variables in no order", &a2, 0);
+
+    for (many, f) in [
+        (4u64, "a3 random, full, 4 tables in turn, descending"),
+        (16, "a3 random, full, 16 tables in turn, descending"),
+    ] {
+        if f.starts_with(&filter) {
+            turns(
+                f,
+                &(0..many)
+                    .map(|i| lay(&random(100 + i, room, er, false), room, er))
+                    .collect::<Vec<_>>(),
+                secs,
+            );
+        }
+    }
+    let f = "a4 random, full, 4 tables in turn, no order";
+    if f.starts_with(&filter) {
+        turns(
+            f,
+            &(0..4)
+                .map(|i| lay(&random(200 + i, room, er, true), room, er))
+                .collect::<Vec<_>>(),
+            secs,
+        );
+    }
+    let f = "b3 random 64 nodes, room 64 and 256, 256 tables in turn";
+    if f.starts_with(&filter) {
+        turns(
+            f,
+            &(0..256)
+                .map(|i| lay(&random(300 + i, 64, 256, false), 64, 256))
+                .collect::<Vec<_>>(),
+            secs,
+        );
+    }
+    let l = random(3, 64, 256, false);
+    go("b1 random 64 nodes, room 64 and 256", &lay(&l, 64, 256), 0);
+    go(
+        "b2 random 64 nodes, room 4096 and 16384",
+        &lay(&l, room, er),
+        0,
+    );
+
+    go("c  fresh, room 4096 and 16384", &lay(&[], room, er), 0);
+
+    let narrow = |vars: usize, counts: &[usize], cut: &[usize]| Spread {
+        vars,
+        counts: counts.to_vec(),
+        cut: cut.to_vec(),
+    };
+    let mut worst: Option<Table> = None;
+    for count in [2, 3, 4, 5, 6, 8, 16, 32, 64] {
+        let many = (er / count).min(room);
+        let t = lay(
+            &one_bucket(4, many, room, &narrow(1, &[count], &[])),
+            room,
+            er,
+        );
+        go(
+            &format!("d1 one bucket, {many} x {count}, differ in the last cut"),
+            &t,
+            0,
+        );
+        if count == 4 {
+            worst = Some(t);
+        }
+    }
+    let mut fuzzy: Option<Table> = None;
+    for (vars, counts, cut) in [
+        (2usize, vec![4usize], vec![1usize, 1]),
+        (4, vec![4], vec![1, 1]),
+        (1, vec![4], vec![2, 1]),
+        (1, vec![4], vec![4, 1]),
+        (1, vec![4], vec![1, 2]),
+        (1, vec![4], vec![1, 4]),
+        (1, vec![4], vec![2, 2]),
+        (1, vec![4], vec![2, 3]),
+        (1, vec![4], vec![3, 2]),
+        (1, vec![4], vec![2, 4]),
+        (1, vec![4], vec![3, 3]),
+        (2, vec![4], vec![2, 2]),
+        (3, vec![4], vec![3, 2]),
+        (1, vec![3, 4], vec![2, 2]),
+        (2, vec![3, 4], vec![2, 2]),
+        (1, vec![2, 3, 4, 5, 6], vec![2, 2, 2, 2]),
+    ] {
+        let sp = Spread {
+            vars,
+            counts: counts.clone(),
+            cut: cut.clone(),
+        };
+        let mut l = one_bucket(5, room, room, &sp);
+        let mut sum = 0;
+        l.retain(|x| {
+            sum += x.kids.len();
+            sum <= er
+        });
+        let t = lay(&l, room, er);
+        go(
+            &format!("d2 one bucket, {vars} vars, counts {counts:?}, cuts {cut:?}"),
+            &t,
+            0,
+        );
+        if vars == 2 && counts == [4] && cut == [2, 2] {
+            fuzzy = Some(t);
+        }
+    }
+
+    // (e) unsound
+    let mut t = a1.clone();
+    t.nodes[room * 4 - 1] = 1;
+    go("e1 a1, last record's spare word 1", &t, 2);
+    let mut t = a1.clone();
+    let b = (0..room).find(|b| t.index[*b] == 0).unwrap();
+    t.index[b] = 1;
+    go("e2 a1, an empty bucket's head 1", &t, 2);
+    let mut t = a1.clone();
+    let k = t.index.len();
+    t.index[k - 1] = 4095 - (t.index[k - 1] == 4095) as u32;
+    go("e3 a1, last next changed", &t, 2);
+    // wrong index: one chain through all nodes, every head its end: each record passes, only the tally fails
+    let chain = |t: &Table| {
+        let mut t = t.clone();
+        for b in 0..room {
+            t.index[b] = t.used as u32;
+        }
+        for n in 0..t.used {
+            t.index[room + n] = n as u32;
+        }
+        t
+    };
+    go(
+        "e4 a1, one chain through all, every head its end",
+        &chain(&a1),
+        2,
+    );
+    go(
+        "e4 a2, one chain through all, every head its end",
+        &chain(&a2),
+        2,
+    );
+    let mut t = worst.clone().unwrap();
+    t.index[0] = 1;
+    go("e5 d1 4096 x 4, an empty bucket's head 1", &t, 2);
+    let mut t = worst.clone().unwrap();
+    t.nodes[room * 4 - 1] = 1;
+    go("e5 d1 4096 x 4, last record's spare word 1", &t, 2);
+    let mut t = worst.clone().unwrap();
+    t.children[er - 1] = 2;
+    go("e5 d1 4096 x 4, last edge's child no later variable", &t, 2);
+    let mut t = fuzzy.clone().unwrap();
+    t.index[0] = 1;
+    go("e6 d2 2 vars, cuts 2 2, an empty bucket's head 1", &t, 2);
+    // the last record the same as the first of the chain
+    let mut l = one_bucket(4, room, room, &narrow(1, &[4], &[]));
+    l[room - 1] = l[0].clone();
+    go(
+        "e7 d1 4096 x 4, last record that of the first",
+        &lay(&l, room, er),
+        2,
+    );
+    // zero behind a short table: a word at the very end
+    let mut t = lay(&[], room, er);
+    t.cuts[er - 1] = 1;
+    go("e8 fresh, last cut 1", &t, 2);
+    let mut t = lay(&[], room, er);
+    t.index[room - 1] = 1;
+    go("e8 fresh, last head 1", &t, 2);
+}
