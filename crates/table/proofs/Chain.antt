@@ -1,4 +1,4 @@
--- The index: what the check looks at value that each word is the last node before, and the other way round.
+-- The index: what the check looks at says that each word is the last node before, and the other way round.
 -- Assumes nothing.
 use mathlib.Core.Path.{_≡_, refl, sym, _∙_, ap, subst}
 use mathlib.Core.Logic.{⊎-elim}

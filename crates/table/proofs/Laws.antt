@@ -228,10 +228,6 @@ pub some-one : (n : ℕ) → (n ≡ 0 → ⊥) → 1 ≡ some n
 some-one zero f = absurd (f refl)
 some-one (suc n) f = refl
 
-pub some-zero : (n : ℕ) → some n ≡ 0 → n ≡ 0
-some-zero zero e = refl
-some-zero (suc n) e = absurd (omega arith)
-
 -- a number that is 0 exactly when P holds
 pub given-yes : {P : Type 0} → P → Decides P (eqb 0 0)
 given-yes p = holds p
@@ -269,11 +265,7 @@ module _ (z : ℤ) (f : SFits w64 z) where
   pub among-places : ltZ (toZ w64 (ofZ w64 z)) (negsuc 4294967296) ≡ false → ltZ (pos 4294967295) (toZ w64 (ofZ w64 z)) ≡ false → Place z
   among-places l h = place-mid z (subst (λ (y : ℤ). ltZ y (negsuc 4294967296) ≡ false) (toZ-ofZ w64 z f) l) (subst (λ (y : ℤ). ltZ (pos 4294967295) y ≡ false) (toZ-ofZ w64 z f) h)
 
--- what the check value, by its answer
-pub judged-yes : {nodes children : List ℕ} {cuts : List ℤ} {index : List ℕ} {u e : ℕ} {b : Bool} → Judges nodes children cuts index u e b → b ≡ true → SoundLent nodes children cuts index u
-judged-yes (sound s q) e = s
-judged-yes (unsound x) e = absurd (clash refl e)
-
+-- what a check that answers no has found
 pub judged-no : {nodes children : List ℕ} {cuts : List ℤ} {index : List ℕ} {u e : ℕ} {b : Bool} → Judges nodes children cuts index u e b → b ≡ false → (u : ℕ) → SoundLent nodes children cuts index u → ⊥
 judged-no (sound s q) e = absurd (clash e refl)
 judged-no (unsound x) e = x
