@@ -16,7 +16,7 @@ use Rattle.diagram.specs.Reading.{positions}
 use Rattle.table.specs.Layout.{cutAt, start, level}
 use Rattle.table.specs.Lent.{SoundLent}
 use Rattle.table.specs.Held.{held}
-use Rattle.table.specs.Told.{Allowed, Checks, checked-1, checked-2, checked-0, Freshens, freshened-1, freshened-0, Places, bit, readingOf, Hears, heard-1, heard-2, heard-3, heard-5, heard-0}
+use Rattle.table.specs.Told.{Allowed, Asked, Checks, checked-1, checked-2, checked-0, Freshens, freshened-1, freshened-0, Places, bit, readingOf, Hears, heard-1, heard-2, heard-3, heard-5, heard-0}
 use Rattle.table.specs.Checking.{spots, Judges, sound, unsound}
 use Rattle.table.proofs.Levels.{level-place}
 use Rattle.table.proofs.Once.{sound-once}
@@ -60,7 +60,7 @@ module _ (nodes children : List ℕ) (cuts : List ℤ) (index : List ℕ) where
   check-refuses places bools id l (checked-0 a u s) n = absurd (n refl)
 
   -- the last answer, from what the code reads with a number that is its argument
-  pub hears-it : {u : ℕ} (places : List ℤ) (bools id : ℕ) → Allowed nodes children cuts index × (length places ≡ firstBoolean) → SoundLent nodes children cuts index u → KnownTo u id → Places places
+  pub hears-it : {u : ℕ} (places : List ℤ) (bools id : ℕ) → Asked nodes children cuts index places → SoundLent nodes children cuts index u → KnownTo u id → Places places
       → {bools′ : ℕ} → bools′ ≡ bools → (b : Bool) → b ≡ value (held nodes children cuts u) (spots places bools′) id → Hears nodes children cuts index places bools id 0 b
   hears-it {u} places bools id a s k ok p b e = rw (e, p, spots-reading places bools ok) (heard-0 a u s k ok)
 

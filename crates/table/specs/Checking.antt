@@ -24,9 +24,9 @@ pub record Climbs (cuts : List ℤ) (e count : ℕ) : Type 0 where
   pub rise : (j : ℕ) → j + 1 < count → below cuts e j < level (cutAt cuts (e + j))
   pub last : cutAt cuts (e + (count - 1)) ≡ pos 0
 
--- One pass over a range node's edges: whether they keep the rules, and then their hash.
-pub record Passes (nodes children : List ℕ) (cuts : List ℤ) (n v e count : ℕ) (ok : Bool) (hash : ℕ) : Type 0 where
-  pub decides : Decides (KidsStand nodes children n v e count × Climbs cuts e count) ok
+-- One pass over a node's edges: whether they keep the rules, that for cuts being its kind's, and then their hash.
+pub record Passes (nodes children : List ℕ) (cuts : List ℤ) (n v e count : ℕ) (rule : Type 0) (ok : Bool) (hash : ℕ) : Type 0 where
+  pub decides : Decides (KidsStand nodes children n v e count × rule) ok
   pub hashed : ok ≡ true → hash ≡ hashTo children cuts v e count
   pub small : hash < 2 ^ 32
 

@@ -71,13 +71,17 @@ readingOf places bools ok = record {
     placed v true f = f (λ i. true)
     placed v false f = (leZ-yes tt, leZ-yes tt)
 
+-- What a reading is lent: a table of allowed lengths, and 32 places.
+abbrev pub Asked : List ℕ → List ℕ → List ℤ → List ℕ → List ℤ → Type 0
+Asked nodes children cuts index places = Allowed nodes children cuts index × (length places ≡ firstBoolean)
+
 -- Reading an id: the number, and the answer beside 0. It changes nothing.
 pub data Hears (nodes children : List ℕ) (cuts : List ℤ) (index : List ℕ) (places : List ℤ) (bools id : ℕ) : ℕ → Bool → Type 0 where
-  heard-1 : (Allowed nodes children cuts index × (length places ≡ firstBoolean) → ⊥) → Hears nodes children cuts index places bools id wrongRoom false
-  heard-2 : Allowed nodes children cuts index × (length places ≡ firstBoolean) → Unsound nodes children cuts index → Hears nodes children cuts index places bools id notSound false
-  heard-3 : Allowed nodes children cuts index × (length places ≡ firstBoolean) → (u : ℕ) → SoundLent nodes children cuts index u → (KnownTo u id → ⊥)
+  heard-1 : (Asked nodes children cuts index places → ⊥) → Hears nodes children cuts index places bools id wrongRoom false
+  heard-2 : Asked nodes children cuts index places → Unsound nodes children cuts index → Hears nodes children cuts index places bools id notSound false
+  heard-3 : Asked nodes children cuts index places → (u : ℕ) → SoundLent nodes children cuts index u → (KnownTo u id → ⊥)
       → Hears nodes children cuts index places bools id unknownId false
-  heard-5 : Allowed nodes children cuts index × (length places ≡ firstBoolean) → (u : ℕ) → SoundLent nodes children cuts index u → KnownTo u id → (Places places → ⊥)
+  heard-5 : Asked nodes children cuts index places → (u : ℕ) → SoundLent nodes children cuts index u → KnownTo u id → (Places places → ⊥)
       → Hears nodes children cuts index places bools id beyondPlaces false
-  heard-0 : Allowed nodes children cuts index × (length places ≡ firstBoolean) → (u : ℕ) → SoundLent nodes children cuts index u → KnownTo u id → (ok : Places places)
+  heard-0 : Asked nodes children cuts index places → (u : ℕ) → SoundLent nodes children cuts index u → KnownTo u id → (ok : Places places)
       → Hears nodes children cuts index places bools id done (says (held nodes children cuts u) (readingOf places bools ok) id)

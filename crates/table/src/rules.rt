@@ -7,7 +7,7 @@ ghost use Rattle.diagram.specs.Room.{mostEdges};
 ghost use Rattle.diagram.specs.Table.{variables};
 ghost use Rattle.table.specs.Layout.{varAt, start};
 ghost use Rattle.table.specs.Lent.{Stands, KidsStand, Blank};
-ghost use Rattle.table.specs.Checking.{Passes, Keeps};
+ghost use Rattle.table.specs.Checking.{Climbs, Passes, Keeps};
 use super::index::hash_of;
 use super::index::mixed;
 use super::limits::FIRST_BOOLEAN;
@@ -110,7 +110,7 @@ pub fn pass(
     count: usize,
 ) -> Seen
     requires { ⌜ (n * 4 + 4 ≤ length (now nodes)) × (v < variables) × (1 ≤ count) × (count ≤ mostEdges) × (e + count ≤ length (now children)) × (length (now cuts) ≡ length (now children)) ⌝ }
-    ensures { λ r. ⌜ Passes (now (nodes .entry)) (now (children .entry)) (now (cuts .entry)) n v e count (r .ok) (r .hash) ⌝ }
+    ensures { λ r. ⌜ Passes (now (nodes .entry)) (now (children .entry)) (now (cuts .entry)) n v e count (Climbs (now (cuts .entry)) e count) (r .ok) (r .hash) ⌝ }
 {
     let end = count - 1;
     let mut last = child_at(children, e);
@@ -141,6 +141,24 @@ pub fn pass(
         return Seen { ok: false, hash: 0 };
     }
     let hash = mixed(h, last, ZERO as usize);
+    Seen {
+        ok: true,
+        hash: hash,
+    }
+}
+
+// One pass over the edges of a boolean node, high and low.
+pub fn pair(nodes: &[u32], children: &[u32], cuts: &[i64], n: usize, v: usize, e: usize) -> Seen
+    requires { ⌜ (n * 4 + 4 ≤ length (now nodes)) × (v < variables) × (e + 2 ≤ length (now children)) × (length (now cuts) ≡ length (now children)) ⌝ }
+    ensures { λ r. ⌜ Passes (now (nodes .entry)) (now (children .entry)) (now (cuts .entry)) n v e 2 (Blank (now (cuts .entry)) e) (r .ok) (r .hash) ⌝ }
+{
+    if !kids_stand(nodes, children, n, v, e, 2) {
+        return Seen { ok: false, hash: 0 };
+    }
+    if !cuts_blank(cuts, e) {
+        return Seen { ok: false, hash: 0 };
+    }
+    let hash = hash_of(children, cuts, v, e, 2);
     Seen {
         ok: true,
         hash: hash,
@@ -182,15 +200,5 @@ pub fn rules_hold(nodes: &[u32], children: &[u32], cuts: &[i64], n: usize, e: us
     if count != 2 {
         return Seen { ok: false, hash: 0 };
     }
-    if !kids_stand(nodes, children, n, v, e, count) {
-        return Seen { ok: false, hash: 0 };
-    }
-    if !cuts_blank(cuts, e) {
-        return Seen { ok: false, hash: 0 };
-    }
-    let hash = hash_of(children, cuts, v, e, count);
-    Seen {
-        ok: true,
-        hash: hash,
-    }
+    pair(nodes, children, cuts, n, v, e)
 }

@@ -2,8 +2,7 @@
 use mathlib.Core.Path.{refl, sym, _∙_}
 use native.Mathlib.Omega.{arith}
 use borrow.Author.Needs.{needs}
-use borrow.Author.Tests.{not-true, not-false}
-use Rattle.table.specs.Deciding.{holds, fails}
+use Rattle.table.specs.Deciding.{fails}
 use Rattle.table.specs.Layout.{firstAt}
 use Rattle.table.specs.Indexed.{hashTo}
 use Rattle.table.proofs.Laws as laws
@@ -79,40 +78,29 @@ returns-8 c = let v = (c .before .before .before .before .before .before .before
 returns-9 : tie.Need-returns-9
 returns-9 c = record { decides = fails (λ p. let v = (c .before .before .before .before .before .before .before .before .before .before .before .before .before .var-of .ensures .0) in (c .if9 .taken) ((c .before .before .before .before .before .before .before .before .before .before .before .before .count-of .ensures .0) ∙ p .two (omega arith))); hashed = λ q. absurd (laws.clash refl q); small = omega arith }
 
-kids-stand-requires : tie.Need-kids-stand-requires
-kids-stand-requires c κs = (omega arith, omega arith, omega arith, omega arith, omega arith)
+pair-requires : tie.Need-pair-requires
+pair-requires c κs = (omega arith, omega arith, omega (arith, (c .if9 .left)), (c .before .before .before .before .before .before .before .before .before .before .before .before .before .before .before .before .pre .3))
 
 returns-10 : tie.Need-returns-10
-returns-10 c = record { decides = fails (λ p. laws.refuted ((c .before .kids-stand .ensures)) (not-true _ ((c .if10 .taken))) (laws.kids-at (sym ((c .before .before .before .before .before .before .before .before .before .before .before .before .before .before .before .var-of .ensures .0))) (sym ((c .before .before .before .before .before .before .before .before .before .before .before .before .before .first-of .ensures .0)) ∙ (c .before .before .before .before .before .before .before .before .before .if4 .left)) (sym ((c .before .before .before .before .before .before .before .before .before .before .before .before .before .before .count-of .ensures .0))) (p .edges))); hashed = λ q. absurd (laws.clash refl q); small = omega arith }
-
-cuts-blank-requires : tie.Need-cuts-blank-requires
-cuts-blank-requires c κs = search needs
-
-returns-11 : tie.Need-returns-11
-returns-11 c = let v = (c .before .before .before .before .before .before .before .before .before .before .before .before .before .before .before .before .before .var-of .ensures .0) in record { decides = fails (λ p. laws.refuted ((c .before .cuts-blank .ensures)) (not-true _ ((c .if11 .taken))) (laws.blank-at (sym ((c .before .before .before .before .before .before .before .before .before .before .before .before .before .before .before .first-of .ensures .0)) ∙ (c .before .before .before .before .before .before .before .before .before .before .before .if4 .left)) (p .booleans (omega arith)))); hashed = λ q. absurd (laws.clash refl q); small = omega arith }
-
-hash-of-requires : tie.Need-hash-of-requires
-hash-of-requires c κs = ((c .before .before .before .before .before .before .before .before .before .before .before .before .before .before .before .before .before .var-of .ensures .1), omega arith, omega arith, (c .before .before .before .before .before .before .before .before .before .before .before .before .before .before .before .before .before .before .before .before .pre .3))
-
-returns-12 : tie.Need-returns-12
-returns-12 c = let v = (c .before .before .before .before .before .before .before .before .before .before .before .before .before .before .before .before .before .before .var-of .ensures .0) in let f = sym ((c .before .before .before .before .before .before .before .before .before .before .before .before .if4 .left)) ∙ (c .before .before .before .before .before .before .before .before .before .before .before .before .before .before .before .before .first-of .ensures .0) in let k = (c .before .before .before .before .before .before .before .before .before .before .before .before .before .before .before .before .before .count-of .ensures .0) in
-    let q = laws.at (now ((c .before .before .before .before .before .before .before .before .before .before .before .before .before .before .before .before .before .before .before .before .before .args .children))) (firstAt (now ((c .before .before .before .before .before .before .before .before .before .before .before .before .before .before .before .before .before .before .before .before .before .args .nodes))) ((c .before .before .before .before .before .before .before .before .before .before .before .before .before .before .before .before .before .before .before .before .before .args .n))) ((c .before .before .before .before .before .before .before .before .before .before .before .before .before .before .before .before .before .before .before .before .before .args .e)) (sym f) in let w = (c .before .before .before .before .before .before .before .before .child-at .ensures .0) in let z = (c .before .before .before .before .before .before .before .if7 .left) in let i5 = (c .before .before .before .before .before .before .before .before .before .before .before .if5 .left) in
+returns-10 c = let v = (c .before .before .before .before .before .before .before .before .before .before .before .before .before .before .var-of .ensures .0) in let f = sym ((c .before .before .before .before .before .before .before .before .if4 .left)) ∙ (c .before .before .before .before .before .before .before .before .before .before .before .before .first-of .ensures .0) in let k = sym ((c .before .if9 .left)) ∙ (c .before .before .before .before .before .before .before .before .before .before .before .before .before .count-of .ensures .0) in
+    let q = laws.at (now ((c .before .before .before .before .before .before .before .before .before .before .before .before .before .before .before .before .before .args .children))) (firstAt (now ((c .before .before .before .before .before .before .before .before .before .before .before .before .before .before .before .before .before .args .nodes))) ((c .before .before .before .before .before .before .before .before .before .before .before .before .before .before .before .before .before .args .n))) ((c .before .before .before .before .before .before .before .before .before .before .before .before .before .before .before .before .before .args .e)) (sym f) in let w = (c .before .before .before .before .child-at .ensures .0) in let z = (c .before .before .before .if7 .left) in let i5 = (c .before .before .before .before .before .before .before .if5 .left) in
     record {
-      decides = holds (record {
+      decides = laws.to ((c .pair .ensures .decides)) (λ p. record {
         known = omega arith;
         many = omega arith;
         most = omega arith;
-        two = λ h. sym k ∙ (c .before .before .before .before .before .if9 .left);
-        spare = sym ((c .before .before .before .before .before .before .before .before .before .before .spare-of .ensures .0)) ∙ (c .before .before .before .before .before .before .before .before .before .if6 .left);
-        packed = sym f ∙ (c .before .before .before .before .before .before .before .before .before .before .before .before .before .before .before .before .before .before .before .before .before .pre .1);
+        two = λ h. sym k;
+        spare = sym ((c .before .before .before .before .before .before .spare-of .ensures .0)) ∙ (c .before .before .before .before .before .if6 .left);
+        packed = sym f ∙ (c .before .before .before .before .before .before .before .before .before .before .before .before .before .before .before .before .before .pre .1);
         inside = omega arith;
         plain = omega arith;
-        edges = laws.kids-at v f k (laws.proved ((c .before .before .before .before .kids-stand .ensures)) (not-false _ ((c .before .before .before .if10 .left))));
+        edges = laws.kids-at v f k (p .0);
         ranges = λ h. absurd (omega arith);
-        booleans = λ h. laws.blank-at f (laws.proved ((c .before .before .cuts-blank .ensures)) (not-false _ ((c .before .if11 .left))));
-      });
-      hashed = λ o. (c .hash-of .ensures .0) ∙ (λ i. hashTo (now ((c .before .before .before .before .before .before .before .before .before .before .before .before .before .before .before .before .before .before .before .before .before .args .children))) (now ((c .before .before .before .before .before .before .before .before .before .before .before .before .before .before .before .before .before .before .before .before .before .args .cuts))) (v i) (f i) (k i));
-      small = (c .hash-of .ensures .1);
+        booleans = λ h. laws.blank-at f (p .1);
+      })
+          (λ p. (laws.kids-at (sym v) (sym f) (sym k) (p .edges), laws.blank-at (sym f) (p .booleans (omega arith))));
+      hashed = λ o. (c .pair .ensures .hashed) o ∙ (λ i. hashTo (now ((c .before .before .before .before .before .before .before .before .before .before .before .before .before .before .before .before .before .args .children))) (now ((c .before .before .before .before .before .before .before .before .before .before .before .before .before .before .before .before .before .args .cuts))) (v i) (f i) (k i));
+      small = (c .pair .ensures .small);
     }
 
 pub rules-hold-spec : {M : Type 1} → statement M
@@ -135,9 +123,5 @@ rules-hold-spec =
     pass-requires
     returns-8
     returns-9
-    kids-stand-requires
-    returns-10
-    cuts-blank-requires
-    returns-11
-    hash-of-requires
-    returns-12)
+    pair-requires
+    returns-10)

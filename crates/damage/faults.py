@@ -1,0 +1,90 @@
+#!/usr/bin/env python3
+"""Says which faults the program `damage` shows. Each is put alone into a copy of crate table, and the program is run with no proof.
+
+  python3 crates/damage/faults.py        (from the repository's root; some seconds a fault)
+
+A fault is seen when the program ends and writes something else than crates/damage/stdout, or does not end well. One that does not build,
+or whose text is not in the source any more, shows nothing, and the script fails."""
+import os
+import subprocess
+import sys
+import tempfile
+
+FAULTS = [
+    ("rules.rt", "if VARIABLES <= v {", "if 66 <= v {"),
+    ("rules.rt", "if first != e {", "if first < e {"),
+    ("rules.rt", "if spare_of(nodes, n) != 0 {", "if spare_of(nodes, n) == 77 {"),
+    ("rules.rt", "if child_at(children, e) % 2 != 0 {", "if child_at(children, e) % 2 == 5 {"),
+    ("rules.rt", "    if count != 2 {", "    if count == 99 {"),
+    ("rules.rt", "    if !cuts_blank(cuts, e) {", "    if cuts_blank(cuts, e) && v == 99 {"),
+    ("rules.rt", "if !blank_at(cuts, e + end) {", "if count == 99 {"),
+    ("rules.rt", "if k <= low {", "if k < low {"),
+    ("rules.rt", "        low = k;", "        low = low;"),
+    ("rules.rt", "if n < at {", "if n + 1 < at {"),
+    ("rules.rt", "if var_below(nodes, at) <= v {", "if var_below(nodes, at) < v {"),
+    ("rules.rt", "if var_below(nodes, at) <= v {", "if var_below(nodes, at) <= 0 {"),
+    ("rules.rt", "        if c == last {\n            return Seen", "        if c == 99 {\n            return Seen"),
+    ("rules.rt", "        if c == last {\n            return false", "        if c == 99 {\n            return false"),
+    ("sound.rt", "if n < next {", "if n + 9 < next {"),
+    ("sound.rt", "if !leads(index, rooms, head, n + 1) {", "if head == 99 {"),
+    ("sound.rt", "    alone(nodes, children, cuts, index, n)", "    true"),
+    ("sound.rt", "if u < x {", "if u + 9 < x {"),
+    ("sound.rt", "    if full == u {", "    if full >= u {"),
+    ("sound.rt", "    tallies(index, rooms + n, n)", "    tallies(index, n + n, n)"),
+    ("sound.rt", "if !zeros_from(nodes, n * 4) {", "if n == 99 {"),
+    ("sound.rt", "if !zeros_from(children, e) {", "if n == 99 {"),
+    ("sound.rt", "if !blanks_from(cuts, e) {", "if n == 99 {"),
+    ("sound.rt", "if !zeros_from(index, rooms + n) {", "if n == 99 {"),
+    ("words.rt", "all |= words[i];", "all |= words[from];"),
+    ("words.rt", "if z < LOWEST_CUT {", "if z < LOWEST {"),
+    ("words.rt", "if HIGHEST < z {", "if 4294967296 < z {"),
+    ("limits.rt", "MOST_NODES: usize = 4096;", "MOST_NODES: usize = 4097;"),
+    ("limits.rt", "MOST_EDGE_ROOM: usize = 16384;", "MOST_EDGE_ROOM: usize = 16385;"),
+    ("limits.rt", "MOST_EDGES: usize = 64;", "MOST_EDGES: usize = 65;"),
+    ("read.rt", "if z < LOWEST {", "if z < -4294967298 {"),
+    ("read.rt", "if HIGHEST < z {", "if 4294967296 < z {"),
+    ("read.rt", "if p < level_at", "if p <= level_at"),
+    ("read.rt", "at = NodeId(c as u32).negate(at);", "at = NodeId(c as u32);"),
+    ("read.rt", "let k = v - FIRST_BOOLEAN;", "let k = v - 33;"),
+    ("read.rt", "    if b == 1 {", "    if b == 0 {"),
+    ("read.rt", "while v < FIRST_BOOLEAN {", "while v < 31 {"),
+    ("calls.rt", "if places.len() != FIRST_BOOLEAN {", "if places.len() < FIRST_BOOLEAN {"),
+    ("calls.rt", "if !id.is_known(c.nodes as u32) {", "if !id.is_known(c.nodes as u32 + 1) {"),
+    ("calls.rt", "    zero_words(index);\n", ""),
+    ("calls.rt", "    zero_cuts(cuts);\n", ""),
+]
+
+
+def tried(root):
+    """None where all is as expected, else what `rt try` says first."""
+    run = subprocess.run(["rt", "try", "damage"], cwd=root, capture_output=True, text=True, timeout=300)
+    said = (run.stdout + run.stderr).strip().split("\n")
+    return None if run.returncode == 0 else said[0]
+
+
+def main():
+    broken = seen = 0
+    with tempfile.TemporaryDirectory() as root:
+        subprocess.run("cp -r crates crates.txt %s" % root, shell=True, check=True)
+        assert tried(root) is None, "the program fails with no fault in it"
+        for name, old, new in FAULTS:
+            path = os.path.join(root, "crates/table/src", name)
+            text = open(path, encoding="utf-8").read()
+            if text.count(old) != 1:
+                said = "not in the source once"
+            else:
+                open(path, "w", encoding="utf-8").write(text.replace(old, new))
+                said = tried(root)
+                open(path, "w", encoding="utf-8").write(text)
+            if said is None:
+                verdict = "not seen"
+            elif said.startswith("FAIL: "):
+                verdict, seen = "seen", seen + 1
+            else:
+                verdict, broken = "SHOWS NOTHING (%s)" % said[:80], broken + 1
+            print("%-9s %-28s %s -> %s" % (name, verdict, old.strip().split("\n")[0], new.strip().split("\n")[0] or "(nothing)"), flush=True)
+    print(len(FAULTS), "faults,", seen, "seen,", broken, "show nothing")
+    sys.exit(1 if broken else 0)
+
+
+main()
