@@ -32,15 +32,15 @@ above-same k t (last b) r = refl
 above-same k t (cut b l f) r = rw (lt-leb l k (r .0))
 
 module _ {A B : Type 0} (a : A) (k : ℕ) (e : Pieces A) (b : B) (l : ℕ) (f : Pieces B) where
-  overlay-right : l < k → overlay (cut a k e) (cut b l f) ≡ cut (a, b) l (overlay (cut a k e) f)
+  pub overlay-right : l < k → overlay (cut a k e) (cut b l f) ≡ cut (a, b) l (overlay (cut a k e) f)
   unfolding overlay below above
   overlay-right h = rw (lt-ltb l k h, le-leb l k (omega arith))
 
-  overlay-left : (t : ℕ) → k < l → overlay (cut a k e) (cut b l f) ≡ cut (a, b) k (overlay e (cut b l f))
+  pub overlay-left : k < l → overlay (cut a k e) (cut b l f) ≡ cut (a, b) k (overlay e (cut b l f))
   unfolding overlay below above
-  overlay-left t h = rw (le-ltb l k (omega arith), lt-leb l k h)
+  overlay-left h = rw (le-ltb l k (omega arith), lt-leb l k h)
 
-  overlay-both : (t : ℕ) → l ≡ k → Rising k t f → overlay (cut a k e) (cut b l f) ≡ cut (a, b) k (overlay e f)
+  pub overlay-both : (t : ℕ) → l ≡ k → Rising k t f → overlay (cut a k e) (cut b l f) ≡ cut (a, b) k (overlay e f)
   unfolding overlay below above
   overlay-both t h r = rw (le-ltb l k (omega arith), le-leb l k (omega arith), above-same k t f r)
 
@@ -58,8 +58,8 @@ overlay-swap (suc n) lo t (cut a k e) (cut b l f) h r s = go (decLt l k) (decLt 
   where
     go : Dec (l < k) → Dec (k < l) → (l < k → overlay f (cut a k e) ≡ map swap (overlay (cut a k e) f)) → (k < l → overlay (cut b l f) e ≡ map swap (overlay e (cut b l f)))
         → (l ≡ k → overlay f e ≡ map swap (overlay e f)) → overlay (cut b l f) (cut a k e) ≡ map swap (overlay (cut a k e) (cut b l f))
-    go (yes i) y x z w = overlay-left b l f a k e t i ∙ ap (cut (b, a) l) (x i) ∙ sym (ap (map swap) (overlay-right a k e b l f i))
-    go (no i) (yes j) x z w = overlay-right b l f a k e j ∙ ap (cut (b, a) k) (z j) ∙ sym (ap (map swap) (overlay-left a k e b l f t j))
+    go (yes i) y x z w = overlay-left b l f a k e i ∙ ap (cut (b, a) l) (x i) ∙ sym (ap (map swap) (overlay-right a k e b l f i))
+    go (no i) (yes j) x z w = overlay-right b l f a k e j ∙ ap (cut (b, a) k) (z j) ∙ sym (ap (map swap) (overlay-left a k e b l f j))
     go (no i) (no j) x z w =
         let q : l ≡ k = omega arith in
         overlay-both b l f a k e t (sym q) (rw (sym q) at (r .2)) ∙ ap₂ (λ (c : ℕ) (p : Pieces _). cut (b, a) c p) q (w q) ∙ sym (ap (map swap) (overlay-both a k e b l f t q (rw q at (s .2))))

@@ -67,7 +67,7 @@ select-between lo hi t p h = go (ltb hi lo) refl (eqb lo 0) refl (leb lo p) refl
     go false e false f false g = select-left false lo (upTo hi t) p (leb-false lo p g)
 
 -- terminals
-child-terminal : (t : Table) (u : ℕ) → u ≤ variables → (b : Bool) → Child t u (terminal b)
+pub child-terminal : (t : Table) (u : ℕ) → u ≤ variables → (b : Bool) → Child t u (terminal b)
 child-terminal t u h true = (omega arith, rw (at-end t) h)
 child-terminal t u h false = (omega arith, rw (at-end t) h)
 

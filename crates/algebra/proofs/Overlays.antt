@@ -121,11 +121,11 @@ module _ {A B : Type 0} where
       each-below a (λ x. P (x .0) × Q (x .1)) Q (λ b q. (h .0, q)) k f (overlay e (above k f)) i (each-overlay P Q e (above k f) (h .1) (each-above Q k f i))
 
 -- merging: a value joins a neighbour that is like it, and no other
-join-same : (c k : ℕ) (e : Pieces ℕ) → c ≡ first e → join c k e ≡ e
+pub join-same : (c k : ℕ) (e : Pieces ℕ) → c ≡ first e → join c k e ≡ e
 unfolding join
 join-same c k e q = rw (eq-eqb c (first e) q)
 
-join-other : (c k : ℕ) (e : Pieces ℕ) → (c ≡ first e → ⊥) → join c k e ≡ cut c k e
+pub join-other : (c k : ℕ) (e : Pieces ℕ) → (c ≡ first e → ⊥) → join c k e ≡ cut c k e
 unfolding join
 join-other c k e n = rw (ne-eqb c (first e) n)
 

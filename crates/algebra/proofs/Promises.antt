@@ -9,7 +9,7 @@ use lib.Dec.{leb, ltb}
 use lib.IntN.{ℤ}
 use borrow.Author.Tests.{lt-ltb, le-ltb, ltb-true, lt-leb, leb-true}
 use Rattle.ids.specs.Id.{FALSE}
-use Rattle.ranges.specs.Line.{Key, Place, position, top}
+use Rattle.ranges.specs.Line.{Key, Place, position}
 use Rattle.ranges.specs.Bounding.{Keyed, inside, firstPlace, lastPlace, empty, nearest}
 use Rattle.ranges.specs.Comparing.{compares, lowerOf, upperOf}
 use Rattle.ranges.specs.declared.bounds.Bound.{Bound}
@@ -23,7 +23,7 @@ use Rattle.diagram.specs.Sound.{Known, Child, Sound, Continues}
 use Rattle.diagram.specs.Reading.{Reading, positions, says, atPlace, switched}
 use Rattle.diagram.specs.Room.{Fits}
 use Rattle.diagram.proofs.Lookup.{value-false}
-use Rattle.diagram.proofs.Readings.{positions-within, positions-atPlace, positions-switched, under-assignments}
+use Rattle.diagram.proofs.Readings.{range-top, positions-within, positions-atPlace, positions-switched, under-assignments}
 use Rattle.algebra.specs.Making.{create-node}
 use Rattle.algebra.specs.Conditions.{between, from-range, comparison, from-bool}
 use Rattle.algebra.specs.Conjunction.{and, or}
@@ -44,9 +44,6 @@ use Rattle.algebra.proofs.Exact.{no-smaller, room-exact, answer-held}
 pub position-range : (v : ℕ) → v < firstBoolean → (ρ : Reading) → positions ρ v ≡ position (ρ .place v)
 position-range v h ρ = rw (lt-ltb v firstBoolean h)
 
-top-range : (v : ℕ) → v < firstBoolean → topOf v ≡ top
-top-range v h = rw (lt-ltb v firstBoolean h)
-
 module _ (v : ℕ) (hv : v < firstBoolean) (lower upper : Bound) (kl : Keyed lower) (ku : Keyed upper) where
   abbrev lo : ℕ
   lo = position (firstPlace lower)
@@ -55,10 +52,10 @@ module _ (v : ℕ) (hv : v < firstBoolean) (lower upper : Bound) (kl : Keyed low
   hi = position (lastPlace upper)
 
   lo-top : lo ≤ topOf v
-  lo-top = rw (top-range v hv) (position-top (firstPlace lower) (place-first lower kl))
+  lo-top = rw (range-top v hv) (position-top (firstPlace lower) (place-first lower kl))
 
   hi-top : hi ≤ topOf v
-  hi-top = rw (top-range v hv) (position-top (lastPlace upper) (place-last upper ku))
+  hi-top = rw (range-top v hv) (position-top (lastPlace upper) (place-last upper ku))
 
   -- the pieces of a range say of each place whether it is inside
   between-inside : (ρ : Reading) → select (between lo hi (topOf v)) (positions ρ v) ≡ inside lower upper (ρ .place v)

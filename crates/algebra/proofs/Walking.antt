@@ -54,7 +54,7 @@ module _ {A : Type 0} (f : Table → A → Table × ℕ) (t₀ : Table) (u : ℕ
     used = λ lo hi h r n l. record { spot = lo; low = omega arith; path = x .used r n l };
   }
 
-  walked : (t : Table) → Sound t → Continues t₀ t → (e : Pieces A) → Each P e → Walked t u m e (walk f t e)
+  pub walked : (t : Table) → Sound t → Continues t₀ t → (e : Pieces A) → Each P e → Walked t u m e (walk f t e)
   unfolding walk
   walked t z g (last a) h = one t a (ok t z g a h)
   walked t z g (cut a k e) h = join (walked s (x .sound) (continues-trans g (x .continues)) e (h .1))

@@ -16,7 +16,7 @@ use Rattle.diagram.specs.Cofactor.{upd}
 use Rattle.diagram.specs.Sound.{Known, Child, Sound}
 use Rattle.diagram.specs.Reading.{Within}
 use Rattle.diagram.specs.Room.{width}
-use Rattle.diagram.specs.Ordered.{Run, Diagram, holds, holders, childAt, varOf, runsOf, Later, Ordered, follow, tells, Path, here, via, any, reaches, down, reached, runs, diagramOf}
+use Rattle.diagram.specs.Ordered.{Run, Diagram, holds, holders, childAt, varOf, runsOf, Later, Ordered, follow, tells, Path, here, via, any, reaches, down, reached, diagramOf}
 use Rattle.diagram.proofs.Either.{either-true}
 use Rattle.diagram.proofs.Lookup.{at-end, truth-end, signed-under}
 use Rattle.diagram.proofs.Piecewise.{reduced-rising}

@@ -7,6 +7,7 @@ pub mod Continuing
 pub mod Cofactors
 pub mod Apart
 pub mod Counting
+pub mod Numbered
 pub mod Runs
 pub mod Diagrams
 pub mod Fewest

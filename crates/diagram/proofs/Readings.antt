@@ -9,9 +9,16 @@ use lib.Signed.{leZ-yes}
 use borrow.Author.Tests.{eqb-true, lt-ltb, le-ltb}
 use Rattle.ranges.specs.Line.{Place, position, placeAt, top}
 use Rattle.ranges.proofs.Positions.{position-top, place-placeAt, position-placeAt}
-use Rattle.diagram.specs.Table.{firstBoolean, isRange, Assignment}
+use Rattle.diagram.specs.Table.{firstBoolean, isRange, topOf, Assignment}
 use Rattle.diagram.specs.Cofactor.{upd}
 use Rattle.diagram.specs.Reading.{Reading, positions, atPlace, switched, Within}
+
+-- the tops of the two kinds of variables
+pub range-top : (v : ℕ) → v < firstBoolean → topOf v ≡ top
+range-top v h = rw (lt-ltb v firstBoolean h)
+
+pub bool-top : (v : ℕ) → firstBoolean ≤ v → topOf v ≡ 1
+bool-top v h = rw (le-ltb v firstBoolean h)
 
 -- a reading gives positions within each variable's own
 pub positions-within : (ρ : Reading) → Within (positions ρ)

@@ -1,7 +1,7 @@
 -- Values along a line of positions, piece by piece: the edges of a node, and what is laid over them. Assumes nothing.
 use mathlib.Core.Path.{_≡_}
 use mathlib.Core.Bool.{cond}
-use Prim.Native.Nat.{ℕ, suc, _≤_, _<_}
+use Prim.Native.Nat.{ℕ, zero, suc, _≤_, _<_}
 use lib.Dec.{ltb}
 
 -- Each value up to its cut, the first position to its right, and a last value that is open to the right.
@@ -38,3 +38,8 @@ module _ {A : Type 0} where
   abbrev pub Reduced : ℕ → ℕ → Pieces A → Type 0
   Reduced b t (last a) = b ≤ t
   Reduced b t (cut a k e) = (b < k) × (k ≤ t) × (a ≡ first e → ⊥) × Reduced k t e
+
+-- Pieces by their numbers, from piece i on, with m cuts: `value` and `edge` say the value and the cut of each.
+unfoldable pub run : {A : Type 0} → (ℕ → A) → (ℕ → ℕ) → ℕ → ℕ → Pieces A
+run value edge i zero = last (value i)
+run value edge i (suc m) = cut (value i) (edge i) (run value edge (suc i) m)

@@ -19,7 +19,7 @@ use Rattle.ranges.specs.declared.bounds.Comparison.{Comparison}
 use Rattle.ranges.specs.declared.spans.Range.{Range}
 use Rattle.ranges.proofs.bounds.Bound.{the-type, the-row}
 use Rattle.ranges.proofs.bounds.Bound.Laws.{the-laws}
-use Rattle.ranges.proofs.Positions.{exactly-between, place-exactly, position-next, position-before, inside-positions, compares-bounds}
+use Rattle.ranges.proofs.Positions.{position-top, exactly-between, place-exactly, place-first, place-last, position-next, position-before, inside-positions, compares-bounds}
 use Rattle.ranges.proofs.Machine.{key-fits, key-back}
 
 -- What it is to be a bound that the machine holds.
@@ -56,8 +56,16 @@ excluded {b} {v} {q} o e r =
     rw e (omega (arith, position-next (exactly v) (place-exactly v h), position-before (exactly v)))
 
 pub bounded : {lower upper : Bound} {r : Range} → Keyed lower → Keyed upper → r .first ≡ position (firstPlace lower) → r .last ≡ position (lastPlace upper) → Bounded lower upper r
-bounded {lower} {upper} kl ku f l = record { first = f; last = l; inner = λ p h. rw (f, l) (sym (inside-positions lower upper kl ku p h)) }
+bounded {lower} {upper} kl ku f l = record {
+  first = f;
+  last = l;
+  first-within = omega (arith, position-top (firstPlace lower) (place-first lower kl));
+  last-within = omega (arith, position-top (lastPlace upper) (place-last upper ku));
+  inner = λ p h. rw (f, l) (sym (inside-positions lower upper kl ku p h));
+}
 
 -- The code hands a key on as 32 bits.
 pub compared : {op is : Comparison} {key : ℤ} {r : Range} {o : Bool} → SFits w32 key → op ≡ is → Bounded (lowerOf is (toZ w32 (ofZ w32 key))) (upperOf is (toZ w32 (ofZ w32 key))) r → o ≡ outsideOf is → Compares op key (record { range = r; outside = o })
-compared {is = is} {key = key} f e b o p h = rw (e, o, (rw (toZ-ofZ w32 key f) at b) .inner p h) (sym (compares-bounds is key p))
+compared {is = is} {key = key} f e b o =
+    let d : Bounded (lowerOf is key) (upperOf is key) _ = rw (toZ-ofZ w32 key f) at b in
+    record { between = rw e d; side = rw e o; says = λ p h. rw (e, o, d .inner p h) (sym (compares-bounds is key p)) }

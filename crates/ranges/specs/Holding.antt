@@ -6,7 +6,7 @@ use lib.Dec.{leb, ltb, eqb}
 use lib.IntN.{ℤ}
 use Rattle.ranges.specs.Line.{Place, position, top}
 use Rattle.ranges.specs.Bounding.{inside, firstPlace, lastPlace}
-use Rattle.ranges.specs.Comparing.{compares}
+use Rattle.ranges.specs.Comparing.{compares, lowerOf, upperOf, outsideOf}
 use Rattle.ranges.specs.declared.bounds.Bound.{Bound}
 use Rattle.ranges.specs.declared.bounds.Comparison.{Comparison}
 use Rattle.ranges.specs.declared.spans.Range.{Range}
@@ -21,15 +21,19 @@ holds r q = leb (r .first) q && leb q (r .last)
 abbrev pub either : Parts → ℕ → Bool
 either s q = holds (s .left) q || holds (s .right) q
 
--- The range between two bounds: of every place, whether it is inside. Its ends are the first and the last place.
+-- The range between two bounds: of every place, whether it is inside. Its ends are the first and the last place, both on the line.
 pub record Bounded (lower upper : Bound) (r : Range) : Type 0 where
   pub first : r .first ≡ position (firstPlace lower)
   pub last : r .last ≡ position (lastPlace upper)
+  pub first-within : r .first ≤ top
+  pub last-within : r .last ≤ top
   pub inner : (p : ℤ) → Place p → holds r (position p) ≡ inside lower upper p
 
--- Where a comparison with a key holds: of every place, whether it is inside the range, or outside it.
-abbrev pub Compares : Comparison → ℤ → Compared → Type 0
-Compares op key c = (p : ℤ) → Place p → cond (c .outside) (not (holds (c .range) (position p))) (holds (c .range) (position p)) ≡ compares op key p
+-- Where a comparison with a key holds: of every place, whether it is inside the range, or outside it. The range is that of its bounds.
+pub record Compares (op : Comparison) (key : ℤ) (c : Compared) : Type 0 where
+  pub between : Bounded (lowerOf op key) (upperOf op key) (c .range)
+  pub side : c .outside ≡ outsideOf op
+  pub says : (p : ℤ) → Place p → cond (c .outside) (not (holds (c .range) (position p))) (holds (c .range) (position p)) ≡ compares op key p
 
 -- The positions that both hold.
 abbrev pub Both : Range → Range → Range → Type 0

@@ -11,7 +11,7 @@ use borrow.Author.Tests.{lt-ltb, le-ltb, ltb-true}
 use lib.Dec.{ltb}
 use lib.ListN.{length}
 use lib.IntN.{ℤ, pos, negsuc}
-use Rattle.diagram.specs.Pieces.{Pieces, last, cut, first, count, Reduced, Each}
+use Rattle.diagram.specs.Pieces.{Pieces, last, cut, first, count, Reduced, Each, run}
 use Rattle.diagram.specs.Table.{Node, Table, at, end, topOf}
 use Rattle.diagram.specs.Sound.{Child, Extends, Sound}
 use Rattle.table.specs.Layout.{varAt, countAt, firstAt, kidAt, cutAt, level}
@@ -19,6 +19,8 @@ use Rattle.table.specs.Lent.{Stands, Blank, Rules, SameRun, SameRecord, 
 use Rattle.table.specs.Held.{edgesFrom, edgesAt, nodeAt, held}
 use Rattle.table.specs.Checking.{below, Climbs}
 use Rattle.diagram.proofs.Lookup as lookup
+use Rattle.diagram.proofs.Numbered.{run-shift}
+use Rattle.diagram.proofs.Readings.{range-top, bool-top}
 use Rattle.table.proofs.Laws as laws
 use Rattle.table.proofs.Levels.{climbs}
 use Rattle.table.proofs.Scan.{table-length}
@@ -115,6 +117,20 @@ module _ (children : List ℕ) (cuts : List ℤ) where
           let y : b + j ≡ b + (n - 1) = omega arith in
           ap (λ (i : ℕ). cutAt cuts i) x ∙ (ra .last ∙ sym (ap (λ (i : ℕ). cutAt cuts i) y ∙ rb .last))
 
+  -- edges as a run
+  edges-here : (i m : ℕ) → edgesFrom children cuts i m ≡ run (kidAt children) (λ j. level (cutAt cuts j)) i m
+  unfolding edgesFrom run
+  edges-here i zero = refl
+  edges-here i (suc m) = ap (cut (kidAt children i) (level (cutAt cuts i))) (edges-here (suc i) m)
+
+  pub edges-run : (e m : ℕ) → edgesFrom children cuts e m ≡ run (λ j. kidAt children (e + j)) (λ j. level (cutAt cuts (e + j))) 0 m
+  edges-run e m =
+      edges-here e m
+      ∙ run-shift (kidAt children) (λ j. kidAt children (e + j)) (λ j. level (cutAt cuts j)) (λ j. level (cutAt cuts (e + j))) e 0 m (λ j l. ap (λ (i : ℕ). kidAt children (e + i)) (plain j)) (λ j l. ap (λ (i : ℕ). level (cutAt cuts (e + i))) (plain j))
+    where
+      plain : (j : ℕ) → j ≡ 0 + j
+      plain j = omega arith
+
   pub range-edges : (v e n : ℕ) → v < 32 → edgesAt children cuts v e n ≡ edgesFrom children cuts e (n - 1)
   unfolding edgesAt
   range-edges v e n h = rw (lt-ltb v 32 h)
@@ -122,12 +138,6 @@ module _ (children : List ℕ) (cuts : List ℤ) where
   pub bool-edges : (v e n : ℕ) → 32 ≤ v → edgesAt children cuts v e n ≡ cut (kidAt children e) 1 (last (kidAt children (e + 1)))
   unfolding edgesAt
   bool-edges v e n h = rw (le-ltb v 32 h)
-
-range-ends : (v : ℕ) → v < 32 → 2 ^ 33 ≡ topOf v
-range-ends v h = rw (lt-ltb v 32 h)
-
-bool-ends : (v : ℕ) → 32 ≤ v → 1 ≡ topOf v
-bool-ends v h = rw (le-ltb v 32 h)
 
 record Fine (t : Table) (v : ℕ) (es : (Pieces ℕ)) : Type 0 where
   pub many : 2 ≤ count es
@@ -181,7 +191,7 @@ module _ (nodes children : List ℕ) (cuts : List ℤ) where
       let two = r .many in
       record {
         many = omega (arith, count-from children cuts e (m - 1));
-        rising = subst (λ (x : ℕ). Reduced 0 x (edgesFrom children cuts e (m - 1))) (range-ends (varAt nodes n) h) (subst (λ (x : ℕ). Reduced 0 (2 ^ 33) (edgesFrom children cuts x (m - 1))) a (canon-from children cuts e m (m - 1) 0 (omega arith) (climbs nodes children cuts n r h) (r .edges .differ)));
+        rising = subst (λ (x : ℕ). Reduced 0 x (edgesFrom children cuts e (m - 1))) (sym (range-top (varAt nodes n) h)) (subst (λ (x : ℕ). Reduced 0 (2 ^ 33) (edgesFrom children cuts x (m - 1))) a (canon-from children cuts e m (m - 1) 0 (omega arith) (climbs nodes children cuts n r h) (r .edges .differ)));
         plain = omega (arith, first-from children cuts e (m - 1), r .plain);
         children = each-from children cuts (Child (held nodes children cuts n) (suc (varAt nodes n))) e (m - 1) (λ j l. kid-ok n (varAt nodes n) (kidAt children (e + j)) (r .known) (r .edges .stand j (omega arith)));
       }
@@ -191,7 +201,7 @@ module _ (nodes children : List ℕ) (cuts : List ℤ) where
       let e = firstAt nodes n in
       let two = r .two h in
       let a : e + 0 ≡ e = omega arith in
-      let t = bool-ends (varAt nodes n) h in
+      let t = bool-top (varAt nodes n) h in
       record {
         many = omega arith;
         rising = (omega arith, omega arith, (λ q. r .edges .differ 0 (omega arith) (sym q ∙ sym (laws.at children (e + 0) e a))), omega arith);

@@ -19,9 +19,9 @@ use mir.Val.{SFits, ofZ, toZ}
 use mir.ValLaws.{toZ-ofZ}
 use native.Mathlib.Numerals.{add-one}
 use Rattle.table.specs.Deciding.{Decides, holds, fails}
-use Rattle.table.specs.Layout.{level, cutAt, kidAt, countAt, start}
+use Rattle.table.specs.Layout.{level, cutAt, kidAt, countAt, firstAt, start}
 use Rattle.table.specs.Indexed.{hashTo, mix}
-use Rattle.table.specs.Lent.{SameRun, KidsStand, Blank, SoundLent}
+use Rattle.table.specs.Lent.{SameRun, KidsStand, Blank, Rules, SoundLent}
 use Rattle.table.specs.Checking.{below, Down, here, there, Climbs, some, tally, Judges, sound, unsound}
 
 pub clash : {b : Bool} → b ≡ false → b ≡ true → ⊥
@@ -159,6 +159,18 @@ start-next nodes n = ap (start nodes) (add-one n)
 pub start-none : (nodes : List ℕ) → start nodes 0 ≡ 0
 unfolding start
 start-none nodes = refl
+
+-- edges of earlier nodes stand before those of later ones
+pub start-up : (nodes : List ℕ) (n u : ℕ) → n ≤ u → start nodes n ≤ start nodes u
+start-up nodes n zero h = let a : n ≡ 0 = omega arith in omega (arith, ap (start nodes) a)
+start-up nodes n (suc u) h = go (eq-or-lt-of-le h) (λ l. start-up nodes n u l)
+  where
+    go : (n ≡ suc u) ⊎ (n < suc u) → (n ≤ u → start nodes n ≤ start nodes u) → start nodes n ≤ start nodes (suc u)
+    go (inl q) rec = omega (arith, ap (start nodes) q)
+    go (inr l) rec = let a : u + 1 ≡ suc u = omega arith in omega (arith, rec (omega arith), start-next nodes u, ap (start nodes) a)
+
+pub edges-before : {nodes children : List ℕ} {cuts : List ℤ} {n u : ℕ} → n < u → Rules nodes children cuts n → firstAt nodes n + countAt nodes n ≤ start nodes u
+edges-before {nodes} {n = n} {u = u} l r = let a : n + 1 ≤ u = omega arith in omega (arith, r .packed, start-next nodes n, start-up nodes (n + 1) u a)
 
 -- Walks.
 module _ {index : List ℕ} {r : ℕ} where

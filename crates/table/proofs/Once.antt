@@ -6,7 +6,6 @@ use native.Mathlib.Omega.{arith}
 use lib.IntN.{ℤ}
 use Rattle.table.specs.Lent.{SoundLent}
 use Rattle.table.proofs.Chain.{Order, less, equal, more, order}
-use Rattle.table.proofs.Laws as laws
 
 module _ (nodes children : List ℕ) (cuts : List ℤ) (index : List ℕ) where
   shorter : (u v : ℕ) → u < v → SoundLent nodes children cuts index u → SoundLent nodes children cuts index v → ⊥

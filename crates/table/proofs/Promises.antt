@@ -31,7 +31,7 @@ pub counts-what-is-held : (nodes children : List ℕ) (cuts : List ℤ) (index :
 counts-what-is-held nodes children cuts index u s = (table-length nodes children cuts u, edges-held nodes children cuts u (s .rules))
 
 -- and the table that is held fits the room it is lent.
-edges-fit : (nodes children : List ℕ) (cuts : List ℤ) (n : ℕ) → ((m : ℕ) → m < n → Rules nodes children cuts m) → start nodes n ≤ length children
+pub edges-fit : (nodes children : List ℕ) (cuts : List ℤ) (n : ℕ) → ((m : ℕ) → m < n → Rules nodes children cuts m) → start nodes n ≤ length children
 unfolding start
 edges-fit nodes children cuts zero r = omega arith
 edges-fit nodes children cuts (suc n) r = omega (arith, r n (omega arith) .packed, r n (omega arith) .inside)
@@ -64,7 +64,7 @@ blank d zero i = refl
 blank d (suc n) zero = refl
 blank d (suc n) (suc i) = blank d n i
 
-no-word : (n i : ℕ) → _≡_ {A = ℕ} (getD (replicate n 0) i 0) 0
+pub no-word : (n i : ℕ) → _≡_ {A = ℕ} (getD (replicate n 0) i 0) 0
 no-word n i = blank {A = ℕ} 0 n i
 
 zero-words-are-sound : (a b c d : ℕ) → SoundLent (replicate a 0) (replicate b 0) (replicate c (pos 0)) (replicate d 0) 0
