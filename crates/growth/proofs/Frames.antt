@@ -1,0 +1,202 @@
+-- Words that stay: where two tables agree on the words of the first u records, those records are the same nodes under the same rules.
+-- Assumes nothing.
+use mathlib.Core.Path.{_≡_, refl, sym, _∙_, ap, subst}
+use mathlib.Core.Logic.{inl, inr, ⊎-elim}
+use mathlib.Core.List.{List, _∷_}
+use Prim.Native.Nat.{ℕ, zero, suc, _+_, _-_, _*_, _/_, _≤_, _<_, _^_}
+use native.Mathlib.Omega.{arith}
+use lib.ListN.{length, getD}
+use lib.IntN.{ℤ}
+use lib.Signed.{_<ℤ_}
+use Rattle.ids.specs.Id.{sign, ref}
+use Rattle.ranges.specs.Line.{Cut}
+use Rattle.diagram.specs.Pieces.{last, cut}
+use Rattle.table.specs.Layout.{varAt, countAt, firstAt, kidAt, cutAt, room, start, level}
+use Rattle.table.specs.Indexed.{hashTo, bucketAt}
+use Rattle.table.specs.Lent.{Stands, KidsStand, Cuts, Blank, Rules, SameRun, SameRecord}
+use Rattle.table.specs.Held.{edgesFrom, edgesAt, nodeAt, held}
+use Rattle.growth.specs.Growing.{OneMore}
+use Rattle.table.proofs.Laws as laws
+use Rattle.table.proofs.Whole.{bucket-lt}
+use Rattle.table.proofs.Bridge.{range-edges, bool-edges}
+
+-- the words of u records and of e edges are the same in both tables
+pub record Agree (u e : ℕ) (nodes children : List ℕ) (cuts : List ℤ) (nodes′ children′ : List ℕ) (cuts′ : List ℤ) : Type 0 where
+  pub word : (i : ℕ) → i < u * 4 → getD nodes′ i 0 ≡ getD nodes i 0
+  pub child : (i : ℕ) → i < e → kidAt children′ i ≡ kidAt children i
+  pub cut : (i : ℕ) → i < e → cutAt cuts′ i ≡ cutAt cuts i
+
+-- each law below holds in both directions
+pub agree-sym : {u e : ℕ} {nodes children : List ℕ} {cuts : List ℤ} {nodes′ children′ : List ℕ} {cuts′ : List ℤ} → Agree u e nodes children cuts nodes′ children′ cuts′ → Agree u e nodes′ children′ cuts′ nodes children cuts
+agree-sym a = record { word = λ i l. sym (a .word i l); child = λ i l. sym (a .child i l); cut = λ i l. sym (a .cut i l) }
+
+-- two tables that differ by node u, whose edges stand from e on, agree before
+pub more-agrees : {u e : ℕ} {nodes children : List ℕ} {cuts : List ℤ} {index nodes′ children′ : List ℕ} {cuts′ : List ℤ} {index′ : List ℕ} → OneMore u e nodes children cuts index nodes′ children′ cuts′ index′ → Agree u e nodes children cuts nodes′ children′ cuts′
+more-agrees m = record { word = λ i l. m .words .word i (inl l); child = λ i l. m .words .child i (inl l); cut = λ i l. m .words .cut i (inl l) }
+
+-- they have the same room,
+pub room-agrees : {u e : ℕ} {nodes children : List ℕ} {cuts : List ℤ} {index nodes′ children′ : List ℕ} {cuts′ : List ℤ} {index′ : List ℕ} → OneMore u e nodes children cuts index nodes′ children′ cuts′ index′ → room nodes′ ≡ room nodes
+room-agrees m = ap (λ (n : ℕ). n / 4) (m .words .long)
+
+-- and the bucket of node u is one of it
+pub bucket-in : {u e : ℕ} {nodes children : List ℕ} {cuts : List ℤ} {index nodes′ children′ : List ℕ} {cuts′ : List ℤ} {index′ : List ℕ} → OneMore u e nodes children cuts index nodes′ children′ cuts′ index′ → 1 ≤ room nodes → bucketAt nodes′ children′ cuts′ u < room nodes
+bucket-in {u} {nodes′ = nodes′} {children′ = children′} {cuts′ = cuts′} m h = subst (λ (r : ℕ). bucketAt nodes′ children′ cuts′ u < r) (room-agrees m) (bucket-lt nodes′ children′ cuts′ u (omega (arith, room-agrees m)))
+
+module _ {u e : ℕ} {nodes children : List ℕ} {cuts : List ℤ} {nodes′ children′ : List ℕ} {cuts′ : List ℤ} (a : Agree u e nodes children cuts nodes′ children′ cuts′) where
+  -- the words of one record
+  pub var-agrees : (n : ℕ) → n < u → varAt nodes′ n ≡ varAt nodes n
+  var-agrees n l = a .word (n * 4) (omega arith)
+
+  pub count-agrees : (n : ℕ) → n < u → countAt nodes′ n ≡ countAt nodes n
+  count-agrees n l = a .word (n * 4 + 1) (omega arith)
+
+  pub first-agrees : (n : ℕ) → n < u → firstAt nodes′ n ≡ firstAt nodes n
+  first-agrees n l = a .word (n * 4 + 2) (omega arith)
+
+  -- where the edges of a node start
+  pub start-agrees : (n : ℕ) → n ≤ u → start nodes′ n ≡ start nodes n
+  unfolding start
+  start-agrees zero h = refl
+  start-agrees (suc n) h = omega (arith, start-agrees n (omega arith), count-agrees n (omega arith))
+
+  -- what a run of edges spells
+  edges-from-agree : (i m : ℕ) → i + m < e → edgesFrom children′ cuts′ i m ≡ edgesFrom children cuts i m
+  unfolding edgesFrom
+  edges-from-agree i zero h = ap last (a .child i (omega arith))
+  edges-from-agree i (suc m) h =
+      let p = a .child i (omega arith) in
+      let q = a .cut i (omega arith) in
+      let r = edges-from-agree (suc i) m (omega arith) in
+      λ k. cut (p k) (level (q k)) (r k)
+
+  edges-at-agree : (v f c : ℕ) → 2 ≤ c → f + c ≤ e → edgesAt children′ cuts′ v f c ≡ edgesAt children cuts v f c
+  edges-at-agree v f c two h = ⊎-elim ranges booleans (laws.split v 32)
+    where
+      ranges : v < 32 → edgesAt children′ cuts′ v f c ≡ edgesAt children cuts v f c
+      ranges l = range-edges children′ cuts′ v f c l ∙ (edges-from-agree f (c - 1) (omega arith) ∙ sym (range-edges children cuts v f c l))
+
+      booleans : 32 ≤ v → edgesAt children′ cuts′ v f c ≡ edgesAt children cuts v f c
+      booleans l =
+          let p = a .child f (omega arith) in
+          let q = a .child (f + 1) (omega arith) in
+          bool-edges children′ cuts′ v f c l ∙ ((λ k. cut (p k) 1 (last (q k))) ∙ sym (bool-edges children cuts v f c l))
+
+  -- what a run of edges hashes to
+  hash-agrees : (v f j : ℕ) → f + j ≤ e → hashTo children′ cuts′ v f j ≡ hashTo children cuts v f j
+  unfolding hashTo
+  hash-agrees v f zero h = refl
+  hash-agrees v f (suc j) h = laws.mixed (hash-agrees v f j (omega arith)) (a .child (f + j) (omega arith)) (ap level (a .cut (f + j) (omega arith)))
+
+  kids-agree : (n v f c : ℕ) → n < u → f + c ≤ e → KidsStand nodes children n v f c → KidsStand nodes′ children′ n v f c
+  kids-agree n v f c l h k = record {
+    stand = λ j b. subst (Stands nodes′ n v) (sym (a .child (f + j) (omega arith))) (stands (kidAt children (f + j)) (k .stand j b));
+    differ = λ j b q. k .differ j b (sym (a .child (f + (j + 1)) (omega arith)) ∙ (q ∙ a .child (f + j) (omega arith)));
+  }
+    where
+      stands : (x : ℕ) → Stands nodes n v x → Stands nodes′ n v x
+      stands x (inl s) = inl s
+      stands x (inr s) = inr (s .0, subst (λ (w : ℕ). v < w) (sym (var-agrees (ref x - 1) (omega (arith, s .0)))) (s .1))
+
+  cuts-agree : (f c : ℕ) → 2 ≤ c → f + c ≤ e → Cuts cuts f c → Cuts cuts′ f c
+  cuts-agree f c two h s = record {
+    within = λ j b. subst Cut (sym (a .cut (f + j) (omega arith))) (s .within j b);
+    strictly = λ j b. subst (λ (z : ℤ). z <ℤ cutAt cuts′ (f + (j + 1))) (sym (a .cut (f + j) (omega arith))) (subst (λ (z : ℤ). cutAt cuts (f + j) <ℤ z) (sym (a .cut (f + (j + 1)) (omega arith))) (s .strictly j b));
+    last = a .cut (f + (c - 1)) (omega arith) ∙ s .last;
+  }
+
+  cuts-at : {f c f' c' : ℕ} → f ≡ f' → c ≡ c' → Cuts cuts′ f c → Cuts cuts′ f' c'
+  cuts-at {c = c} {f' = f'} p q s = subst (Cuts cuts′ f') q (subst (λ (i : ℕ). Cuts cuts′ i c) p s)
+
+  blank-agrees : (f : ℕ) → f + 2 ≤ e → Blank cuts f → Blank cuts′ f
+  blank-agrees f h b = record { high = a .cut f (omega arith) ∙ b .high; low = a .cut (f + 1) (omega arith) ∙ b .low }
+
+  module _ (rules : (n : ℕ) → n < u → Rules nodes children cuts n) (within : start nodes u ≤ e) where
+    -- the edges of a record stand where the tables agree
+    inside-agreed : (n : ℕ) → n < u → firstAt nodes n + countAt nodes n ≤ e
+    inside-agreed n l = omega (arith, laws.edges-before l (rules n l), within)
+
+    -- a record under the rules stays under them
+    pub rules-agree : (n : ℕ) → n < u → length children′ ≡ length children → Rules nodes′ children′ cuts′ n
+    rules-agree n l wide = record {
+      known = omega (arith, v, r .known);
+      many = omega (arith, c, r .many);
+      most = omega (arith, c, r .most);
+      two = λ b. c ∙ r .two (omega (arith, v, b));
+      spare = a .word (n * 4 + 3) (omega arith) ∙ r .spare;
+      packed = f ∙ (r .packed ∙ sym (start-agrees n (omega arith)));
+      inside = omega (arith, f, c, wide, r .inside);
+      plain = ap (λ (i : ℕ). sign (kidAt children′ i)) f ∙ (ap sign (a .child (firstAt nodes n) (omega (arith, h, r .many))) ∙ r .plain);
+      edges = laws.kids-at (sym v) (sym f) (sym c) (kids-agree n (varAt nodes n) (firstAt nodes n) (countAt nodes n) l h (r .edges));
+      ranges = λ b. cuts-at (sym f) (sym c) (cuts-agree (firstAt nodes n) (countAt nodes n) (r .many) h (r .ranges (omega (arith, v, b))));
+      booleans = λ b. laws.blank-at (sym f) (blank-agrees (firstAt nodes n) (omega (arith, h, r .many)) (r .booleans (omega (arith, v, b))));
+    }
+      where
+        r : Rules nodes children cuts n
+        r = rules n l
+
+        v : varAt nodes′ n ≡ varAt nodes n
+        v = var-agrees n l
+
+        c : countAt nodes′ n ≡ countAt nodes n
+        c = count-agrees n l
+
+        f : firstAt nodes′ n ≡ firstAt nodes n
+        f = first-agrees n l
+
+        h : firstAt nodes n + countAt nodes n ≤ e
+        h = inside-agreed n l
+
+    -- and stays in its bucket
+    pub bucket-agrees : (n : ℕ) → n < u → length nodes′ ≡ length nodes → bucketAt nodes′ children′ cuts′ n ≡ bucketAt nodes children cuts n
+    unfolding bucketAt
+    bucket-agrees n l long = λ i. hash i * (long i / 4) / 2 ^ 32
+      where
+        v : varAt nodes′ n ≡ varAt nodes n
+        v = var-agrees n l
+
+        c : countAt nodes′ n ≡ countAt nodes n
+        c = count-agrees n l
+
+        f : firstAt nodes′ n ≡ firstAt nodes n
+        f = first-agrees n l
+
+        hash : hashTo children′ cuts′ (varAt nodes′ n) (firstAt nodes′ n) (countAt nodes′ n) ≡ hashTo children cuts (varAt nodes n) (firstAt nodes n) (countAt nodes n)
+        hash = (λ i. hashTo children′ cuts′ (v i) (f i) (c i)) ∙ hash-agrees (varAt nodes n) (firstAt nodes n) (countAt nodes n) (inside-agreed n l)
+
+    -- and is the same node
+    pub node-agrees : (n : ℕ) → n < u → nodeAt nodes′ children′ cuts′ n ≡ nodeAt nodes children cuts n
+    node-agrees n l = λ i. record { var = v i; edges = edges i }
+      where
+        v : varAt nodes′ n ≡ varAt nodes n
+        v = var-agrees n l
+
+        c : countAt nodes′ n ≡ countAt nodes n
+        c = count-agrees n l
+
+        f : firstAt nodes′ n ≡ firstAt nodes n
+        f = first-agrees n l
+
+        edges : edgesAt children′ cuts′ (varAt nodes′ n) (firstAt nodes′ n) (countAt nodes′ n) ≡ edgesAt children cuts (varAt nodes n) (firstAt nodes n) (countAt nodes n)
+        edges = (λ i. edgesAt children′ cuts′ (v i) (f i) (c i)) ∙ edges-at-agree (varAt nodes n) (firstAt nodes n) (countAt nodes n) (rules n l .many) (inside-agreed n l)
+
+    -- so the first n records hold the same table
+    pub held-agrees : (n : ℕ) → n ≤ u → held nodes′ children′ cuts′ n ≡ held nodes children cuts n
+    unfolding held
+    held-agrees zero h = refl
+    held-agrees (suc n) h = let p = node-agrees n (omega arith) in let q = held-agrees n (omega arith) in λ i. p i ∷ q i
+
+    -- and two of them are the same record only if they were
+    pub same-record-agrees : (m n : ℕ) → m < u → n < u → SameRecord nodes′ children′ cuts′ m n → SameRecord nodes children cuts m n
+    same-record-agrees m n k l s = record { variable = sym (var-agrees m k) ∙ (s .variable ∙ var-agrees n l); count = count; edges = record { child = λ j b. child j b; cut = λ j b. cut-same j b } }
+      where
+        count : countAt nodes m ≡ countAt nodes n
+        count = sym (count-agrees m k) ∙ (s .count ∙ count-agrees n l)
+
+        run : SameRun children′ cuts′ (firstAt nodes m) (firstAt nodes n) (countAt nodes n)
+        run = laws.same-at (first-agrees m k) (first-agrees n l) (count-agrees n l) (s .edges)
+
+        child : (j : ℕ) → j < countAt nodes n → kidAt children (firstAt nodes m + j) ≡ kidAt children (firstAt nodes n + j)
+        child j b = sym (a .child (firstAt nodes m + j) (omega (arith, inside-agreed m k, count))) ∙ (run .child j b ∙ a .child (firstAt nodes n + j) (omega (arith, inside-agreed n l)))
+
+        cut-same : (j : ℕ) → j < countAt nodes n → cutAt cuts (firstAt nodes m + j) ≡ cutAt cuts (firstAt nodes n + j)
+        cut-same j b = sym (a .cut (firstAt nodes m + j) (omega (arith, inside-agreed m k, count))) ∙ (run .cut j b ∙ a .cut (firstAt nodes n + j) (omega (arith, inside-agreed n l)))
