@@ -1,0 +1,108 @@
+-- The four ways in which `create_node` ends. Assumes nothing.
+use mathlib.Core.Path.{_≡_, refl, sym, _∙_, ap, subst}
+use mathlib.Core.Bool.{true, false}
+use mathlib.Core.List.{List, _∷_}
+use Prim.Native.Nat.{ℕ, zero, suc, _+_, _-_, _*_, _≤_, _<_}
+use native.Mathlib.Omega.{arith}
+use lib.ListN.{length}
+use lib.IntN.{ℤ}
+use Rattle.ids.specs.Id.{sign, under}
+use Rattle.ids.specs.declared.NodeId.{NodeId}
+use Rattle.diagram.specs.Pieces.{run}
+use Rattle.diagram.specs.Table.{Table, Node}
+use Rattle.diagram.specs.Cofactor.{map}
+use Rattle.diagram.specs.Room.{Fits}
+use Rattle.algebra.specs.Making.{find, intern, settle, firstSign}
+use Rattle.algebra.proofs.Making.{found}
+use Rattle.table.specs.Layout.{mostNodes, room}
+use Rattle.table.proofs.Laws.{clash}
+use Rattle.table.proofs.Scan.{table-length}
+use Rattle.table.proofs.Promises.{counts-what-is-held}
+use Rattle.merging.proofs.Fitting.{intern-added, intern-found}
+use Rattle.making.specs.declared.edges.Edges as built
+use Rattle.making.specs.declared.nodes.Head.{Head}
+use Rattle.making.specs.declared.nodes.Made.{Made}
+use Rattle.making.specs.Building.{childIn, cutIn, piecesOf, nodeOf}
+use Rattle.making.specs.Outcome.{Lent, Outcome, Untouched, Added, tableOf}
+use Rattle.making.proofs.Matching.{count-of-node}
+use Rattle.making.proofs.Kept.{stays-here}
+
+-- One edge is no node,
+settle-run : (t : Table) (v : ℕ) (c k : ℕ → ℕ) (m : ℕ) → m ≡ 0 → settle t v (run c k 0 m) ≡ (t, c 0)
+unfolding settle run
+settle-run t v c k zero e = refl
+settle-run t v c k (suc m) e = absurd (omega arith)
+
+-- and more are a node under the sign of the first.
+intern-run : (t : Table) (v : ℕ) (c k : ℕ → ℕ) (m : ℕ) → 0 < m → settle t v (run c k 0 m) ≡ intern t (record { var = v; edges = map (under (sign (c 0))) (run c k 0 m) }) (sign (c 0))
+unfolding settle run firstSign
+intern-run t v c k zero h = absurd (omega arith)
+intern-run t v c k (suc m) h = refl
+
+id-under : (n s : ℕ) → s < 2 → under s (n * 2) ≡ 2 * n + s
+id-under n zero h = omega arith
+id-under n (suc zero) h = omega arith
+id-under n (suc (suc s)) h = absurd (omega arith)
+
+module _ {h : Head} {nodes children : List ℕ} {cuts : List ℤ} {index : List ℕ} (l : Lent h nodes children cuts index) (v : ℕ) (es : built.Edges) where
+  abbrev t : Table
+  t = tableOf h nodes children cuts
+
+  abbrev s : ℕ
+  s = sign (childIn es 0)
+
+  -- Refs are small.
+  pub ref-small : (nd : Node) (at : ℕ) → at ≡ find t nd → at ≤ mostNodes
+  ref-small nd at e = omega (arith, found t nd .inside, table-length nodes children cuts (h .used), l .sound .fits, l .allowed .most-nodes)
+
+  -- What create_node promises.
+  abbrev pub Creates : Made → List ℕ → List ℕ → List ℤ → List ℕ → Type 0
+  Creates r nodes′ children′ cuts′ index′ = Outcome h (settle t v (piecesOf es)) r nodes children cuts nodes′ children′ cuts′ index′ × (r .ok ≡ false → Untouched nodes children cuts index nodes′ children′ cuts′ index′)
+
+  kept : (id : NodeId) → settle t v (piecesOf es) ≡ (t, id .0) → Creates (record { ok = true; id = id; head = h }) nodes children cuts index
+  kept id e = (record { lent = l; stays = stays-here; table = λ q. sym (ap (λ (x : Table × ℕ). x .0) e); id = λ q. sym (ap (λ (x : Table × ℕ). x .1) e); full = λ q. absurd (clash q refl) }, λ q. absurd (clash q refl))
+
+  pub dropped : es .len ≡ 1 → (id : NodeId) → id .0 ≡ childIn es 0 → Creates (record { ok = true; id = id; head = h }) nodes children cuts index
+  dropped one id e = kept id (settle-run t v (childIn es) (cutIn es) (es .len - 1) (omega arith) ∙ ap (λ (x : ℕ). (t, x)) (sym e))
+
+  module _ (many : 2 ≤ es .len) where
+    as-node : settle t v (piecesOf es) ≡ intern t (nodeOf v s es) s
+    as-node = intern-run t v (childIn es) (cutIn es) (es .len - 1) (omega arith)
+
+    pub found-one : (at : ℕ) → 0 < at → at ≡ find t (nodeOf v s es) → (id : NodeId) → id .0 ≡ under s (at * 2) → Creates (record { ok = true; id = id; head = h }) nodes children cuts index
+    found-one zero g e id q = absurd (omega arith)
+    found-one (suc r) g e id q = kept id (as-node ∙ (intern-found t (nodeOf v s es) s r (sym e) ∙ ap (λ (x : ℕ). (t, x)) (sym (q ∙ id-under (suc r) s (omega arith)))))
+
+    module _ (absent : find t (nodeOf v s es) ≡ 0) where
+      wanted : settle t v (piecesOf es) ≡ (nodeOf v s es ∷ t, 2 * suc (length t) + s)
+      wanted = as-node ∙ intern-added t (nodeOf v s es) s absent
+
+      pub no-room : ((h .used < room nodes) × (h .edges + es .len ≤ length children) → ⊥) → (id : NodeId) → Creates (record { ok = false; id = id; head = h }) nodes children cuts index
+      no-room g id = (
+        record {
+          lent = l;
+          stays = stays-here;
+          table = λ q. absurd (clash refl q);
+          id = λ q. absurd (clash refl q);
+          full = λ q f. g (over (subst (λ (x : Table × ℕ). Fits (room nodes) (length children) (x .0)) wanted f));
+        },
+        λ q. record { nodes-same = refl; children-same = refl; cuts-same = refl; index-same = refl },
+      )
+        where
+          over : Fits (room nodes) (length children) (nodeOf v s es ∷ t) → (h .used < room nodes) × (h .edges + es .len ≤ length children)
+          over f = (omega (arith, f .nodesFit, table-length nodes children cuts (h .used)), omega (arith, f .edgesFit, count-of-node v s es (omega arith), counts-what-is-held nodes children cuts index (h .used) (l .sound) .1, l .edges))
+
+      pub added-one : {h′ : Head} {nodes′ children′ : List ℕ} {cuts′ : List ℤ} {index′ : List ℕ} → Added h (nodeOf v s es) h′ nodes children cuts nodes′ children′ cuts′ index′ → (id : NodeId) → id .0 ≡ under s (h′ .used * 2) → Creates (record { ok = true; id = id; head = h′ }) nodes′ children′ cuts′ index′
+      added-one {h′} a id q = (
+        record {
+          lent = a .lent;
+          stays = a .stays;
+          table = λ x. a .table ∙ sym (ap (λ (y : Table × ℕ). y .0) wanted);
+          id = λ x. q ∙ (id-under (h′ .used) s (omega arith) ∙ (same-id ∙ sym (ap (λ (y : Table × ℕ). y .1) wanted)));
+          full = λ x. absurd (clash x refl);
+        },
+        λ x. absurd (clash x refl),
+      )
+        where
+          same-id : 2 * h′ .used + s ≡ 2 * suc (length t) + s
+          same-id = let b = a .used in let d = table-length nodes children cuts (h .used) in omega arith

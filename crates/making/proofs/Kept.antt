@@ -1,0 +1,75 @@
+-- Lent tables of which the used words stay: one continues the other. Assumes nothing.
+use mathlib.Core.Path.{_≡_, refl, _∙_, subst}
+use mathlib.Core.List.{List}
+use mathlib.Core.Logic.{⊎-elim}
+use Prim.Native.Nat.{ℕ, zero, suc, _≤_}
+use native.Mathlib.Omega.{arith}
+use native.Mathlib.Nat.{eq-or-lt-of-le}
+use lib.ListN.{length}
+use lib.IntN.{ℤ}
+use Rattle.diagram.specs.Sound.{Continues, same, more}
+use Rattle.diagram.specs.Table.{Table}
+use Rattle.table.specs.Layout.{Lengths}
+use Rattle.table.specs.Held.{nodeAt, held}
+use Rattle.table.proofs.Promises.{counts-what-is-held, fits-its-room}
+use Rattle.growth.proofs.Frames.{Agree, held-agrees}
+use Rattle.making.specs.declared.nodes.Head.{Head}
+use Rattle.making.specs.Outcome.{Lent, Stays, TakenBack, tableOf}
+
+-- Only lengths are allowed or not.
+pub allowed-same : {a b c d a′ b′ c′ d′ : ℕ} → Lengths a b c d → a′ ≡ a → b′ ≡ b → c′ ≡ c → d′ ≡ d → Lengths a′ b′ c′ d′
+allowed-same l p q r s = rw (p, q, r, s) l
+
+-- The used edges are within the room.
+pub edges-inside : {h : Head} {nodes children : List ℕ} {cuts : List ℤ} {index : List ℕ} → Lent h nodes children cuts index → h .edges ≤ length children
+edges-inside {h} {nodes} {children} {cuts} {index} l = omega (arith, fits-its-room nodes children cuts index (h .used) (l .sound) .edgesFit, counts-what-is-held nodes children cuts index (h .used) (l .sound) .1, l .edges)
+
+module _ {h : Head} {nodes children : List ℕ} {cuts : List ℤ} where
+  pub stays-here : Stays h nodes children cuts h nodes children cuts
+  stays-here = record {
+    long = refl;
+    wide = refl;
+    nodes-more = omega arith;
+    edges-more = omega arith;
+    word = λ i l. refl;
+    child = λ i l. refl;
+    cut = λ i l. refl;
+  }
+
+module _ {h i j : Head} {nodes children : List ℕ} {cuts : List ℤ} {nodes′ children′ : List ℕ} {cuts′ : List ℤ} {nodes″ children″ : List ℕ} {cuts″ : List ℤ} where
+  pub stays-trans : Stays h nodes children cuts i nodes′ children′ cuts′ → Stays i nodes′ children′ cuts′ j nodes″ children″ cuts″ → Stays h nodes children cuts j nodes″ children″ cuts″
+  stays-trans a b = record {
+    long = b .long ∙ a .long;
+    wide = b .wide ∙ a .wide;
+    nodes-more = omega (arith, a .nodes-more, b .nodes-more);
+    edges-more = omega (arith, a .edges-more, b .edges-more);
+    word = λ n l. b .word n (omega (arith, a .nodes-more)) ∙ a .word n l;
+    child = λ n l. b .child n (omega (arith, a .edges-more)) ∙ a .child n l;
+    cut = λ n l. b .cut n (omega (arith, a .edges-more)) ∙ a .cut n l;
+  }
+
+longer : (nodes children : List ℕ) (cuts : List ℤ) (n m : ℕ) → n ≤ m → Continues (held nodes children cuts n) (held nodes children cuts m)
+unfolding held
+longer nodes children cuts n zero k = let e : n ≡ 0 = omega arith in rw e same
+longer nodes children cuts n (suc m) k = ⊎-elim (λ e. rw e same) (λ g. more (nodeAt nodes children cuts m) (longer nodes children cuts n m (omega arith))) (eq-or-lt-of-le k)
+
+module _ {h h′ : Head} {nodes children : List ℕ} {cuts : List ℤ} {index nodes′ children′ : List ℕ} {cuts′ : List ℤ} (l : Lent h nodes children cuts index) (s : Stays h nodes children cuts h′ nodes′ children′ cuts′) where
+  pub stays-agree : Agree (h .used) (h .edges) nodes children cuts nodes′ children′ cuts′
+  stays-agree = record { word = s .word; child = s .child; cut = s .cut }
+
+  -- The old nodes are still held,
+  pub held-still : held nodes′ children′ cuts′ (h .used) ≡ tableOf h nodes children cuts
+  held-still = held-agrees stays-agree (l .sound .rules) (omega (arith, l .edges)) (h .used) (omega arith)
+
+  -- so the new table continues the old.
+  pub continued : Continues (tableOf h nodes children cuts) (tableOf h′ nodes′ children′ cuts′)
+  continued = subst (λ (t : Table). Continues t (tableOf h′ nodes′ children′ cuts′)) held-still (longer nodes′ children′ cuts′ (h .used) (h′ .used) (s .nodes-more))
+
+module _ {u w : ℕ} {h i j : Head} {nodes children : List ℕ} {cuts : List ℤ} {nodes′ children′ : List ℕ} {cuts′ : List ℤ} {index′ nodes″ children″ : List ℕ} {cuts″ : List ℤ} {index″ : List ℕ} where
+  -- Taking back goes on where it stopped.
+  pub taken-on : TakenBack u h nodes children cuts i nodes′ children′ cuts′ index′ → TakenBack w i nodes′ children′ cuts′ j nodes″ children″ cuts″ index″ → TakenBack w h nodes children cuts j nodes″ children″ cuts″ index″
+  taken-on a b = record { lent = b .lent; used-is = b .used-is; stays = stays-trans (b .stays) (a .stays) }
+
+module _ {u w : ℕ} {h j : Head} {nodes children : List ℕ} {cuts : List ℤ} {nodes′ children′ : List ℕ} {cuts′ : List ℤ} {index′ : List ℕ} where
+  pub taken-to : TakenBack u h nodes children cuts j nodes′ children′ cuts′ index′ → j .used ≡ w → TakenBack w h nodes children cuts j nodes′ children′ cuts′ index′
+  taken-to a e = record { lent = a .lent; used-is = e; stays = a .stays }

@@ -1,0 +1,60 @@
+-- A node under construction: its edges as the code holds them, and how they are stored. Document 01, step 4. Assumes nothing.
+use mathlib.Core.Path.{_≡_}
+use mathlib.Core.Bool.{cond, _&&_}
+use mathlib.Core.List.{List}
+use Prim.Native.Nat.{ℕ, zero, suc, _+_, _-_, _%_, _≤_, _<_, _^_}
+use lib.Dec.{ltb}
+use lib.ListN.{length, getD}
+use lib.IntN.{ℤ}
+use Rattle.ids.specs.Id.{under}
+use Rattle.diagram.specs.Pieces.{Pieces, run}
+use Rattle.diagram.specs.Table.{isRange, Node}
+use Rattle.diagram.specs.Cofactor.{map}
+use Rattle.diagram.specs.Room.{mostEdges}
+use Rattle.table.specs.Layout.{varAt, countAt, firstAt, kidAt, cutAt, level}
+use Rattle.table.specs.Indexed.{mix}
+use Rattle.making.specs.declared.edges.Edge.{Edge}
+use Rattle.making.specs.declared.edges.Edges as built
+
+abbrev pub none : Edge
+none = record { cut = 0; child = record { 0 = 0 }; spare = 0 }
+
+-- Child j and cut j of a node under construction.
+abbrev pub childIn : built.Edges → ℕ → ℕ
+childIn es j = getD (es .list) j none .child .0
+
+abbrev pub cutIn : built.Edges → ℕ → ℕ
+cutIn es j = getD (es .list) j none .cut
+
+-- Its edges.
+abbrev pub piecesOf : built.Edges → Pieces ℕ
+piecesOf es = run (childIn es) (cutIn es) 0 (es .len - 1)
+
+-- "At most 64 edges", and at least one.
+pub record Building (es : built.Edges) : Type 0 where
+  pub size : length (es .list) ≡ mostEdges
+  pub some : 1 ≤ es .len
+  pub most : es .len ≤ mostEdges
+
+-- The node of variable v over these edges, seen under a sign: "flip if the first child is complemented".
+abbrev pub nodeOf : ℕ → ℕ → built.Edges → Node
+nodeOf v s es = record { var = v; edges = map (under s) (piecesOf es) }
+
+-- The position of the stored cut of an edge: its own, and where no cut is stored that of the 0 which stands there.
+abbrev pub zeroCut : ℕ
+zeroCut = 4294967297
+
+unfoldable pub keyIn : ℕ → built.Edges → ℕ → ℕ
+keyIn v es j = cond (isRange v && ltb (j + 1) (es .len)) (cutIn es j) zeroCut
+
+-- The hash of the node, as the index has it of stored ones.
+unfoldable pub hashIn : ℕ → ℕ → built.Edges → ℕ → ℕ
+hashIn v s es zero = v % 2 ^ 32
+hashIn v s es (suc j) = mix (hashIn v s es j) (under s (childIn es j)) (keyIn v es j)
+
+-- Record n is this node.
+pub record Matches (nodes children : List ℕ) (cuts : List ℤ) (n v s : ℕ) (es : built.Edges) : Type 0 where
+  pub variable : varAt nodes n ≡ v
+  pub count : countAt nodes n ≡ es .len
+  pub child : (j : ℕ) → j < es .len → kidAt children (firstAt nodes n + j) ≡ under s (childIn es j)
+  pub cut : (j : ℕ) → j < es .len → level (cutAt cuts (firstAt nodes n + j)) ≡ keyIn v es j

@@ -1,0 +1,4 @@
+-- Node making on lent tables: the node under construction, what making leaves, and taking nodes back. Assumes nothing.
+pub mod Building
+pub mod Storing
+pub mod Outcome

@@ -1,0 +1,75 @@
+-- What an operation on a lent table finds and leaves. Assumes nothing.
+use mathlib.Core.Path.{_≡_}
+use mathlib.Core.Bool.{true, false}
+use mathlib.Core.List.{List, _∷_}
+use Prim.Native.Nat.{ℕ, suc, _*_, _≤_, _<_}
+use lib.ListN.{length, getD}
+use lib.IntN.{ℤ}
+use Rattle.diagram.specs.Pieces.{Each, Reduced}
+use Rattle.diagram.specs.Table.{variables, topOf, Node, Table}
+use Rattle.diagram.specs.Sound.{Child}
+use Rattle.diagram.specs.Room.{Fits}
+use Rattle.table.specs.Layout.{kidAt, cutAt, room, start}
+use Rattle.table.specs.Lent.{SoundLent}
+use Rattle.table.specs.Held.{held}
+use Rattle.table.specs.Told.{Allowed}
+use Rattle.making.specs.declared.edges.Edges as built
+use Rattle.making.specs.declared.nodes.Head.{Head}
+use Rattle.making.specs.declared.nodes.Made.{Made}
+use Rattle.making.specs.Building.{Building, piecesOf}
+
+-- A sound lent table, and how much of it is used.
+pub record Lent (h : Head) (nodes children : List ℕ) (cuts : List ℤ) (index : List ℕ) : Type 0 where
+  pub allowed : Allowed nodes children cuts index
+  pub sound : SoundLent nodes children cuts index (h .used)
+  pub edges : h .edges ≡ start nodes (h .used)
+
+-- What it holds.
+abbrev pub tableOf : Head → List ℕ → List ℕ → List ℤ → Table
+tableOf h nodes children cuts = held nodes children cuts (h .used)
+
+-- The words that the first head calls used stay, and no less is used after it.
+pub record Stays (h : Head) (nodes children : List ℕ) (cuts : List ℤ) (h′ : Head) (nodes′ children′ : List ℕ) (cuts′ : List ℤ) : Type 0 where
+  pub long : length nodes′ ≡ length nodes
+  pub wide : length children′ ≡ length children
+  pub nodes-more : h .used ≤ h′ .used
+  pub edges-more : h .edges ≤ h′ .edges
+  pub word : (i : ℕ) → i < h .used * 4 → getD nodes′ i 0 ≡ getD nodes i 0
+  pub child : (i : ℕ) → i < h .edges → kidAt children′ i ≡ kidAt children i
+  pub cut : (i : ℕ) → i < h .edges → cutAt cuts′ i ≡ cutAt cuts i
+
+-- Every making function leaves a sound table that continues the one it found. Done, the table and the id are those that the
+-- mathematics wants; else what it wants has no room.
+pub record Outcome (h : Head) (want : Table × ℕ) (r : Made) (nodes children : List ℕ) (cuts : List ℤ) (nodes′ children′ : List ℕ) (cuts′ : List ℤ) (index′ : List ℕ) : Type 0 where
+  pub lent : Lent (r .head) nodes′ children′ cuts′ index′
+  pub stays : Stays h nodes children cuts (r .head) nodes′ children′ cuts′
+  pub table : r .ok ≡ true → tableOf (r .head) nodes′ children′ cuts′ ≡ want .0
+  pub id : r .ok ≡ true → r .id .0 ≡ want .1
+  pub full : r .ok ≡ false → Fits (room nodes) (length children) (want .0) → ⊥
+
+-- Every word is as it was.
+pub record Untouched (nodes children : List ℕ) (cuts : List ℤ) (index nodes′ children′ : List ℕ) (cuts′ : List ℤ) (index′ : List ℕ) : Type 0 where
+  pub nodes-same : nodes′ ≡ nodes
+  pub children-same : children′ ≡ children
+  pub cuts-same : cuts′ ≡ cuts
+  pub index-same : index′ ≡ index
+
+-- Edges from which a node of variable v can be made in the table t: merged, rising, and their children later than v.
+pub record Buildable (t : Table) (v : ℕ) (es : built.Edges) : Type 0 where
+  pub building : Building es
+  pub known : v < variables
+  pub reduced : Reduced 0 (topOf v) (piecesOf es)
+  pub kids : Each (Child t (suc v)) (piecesOf es)
+
+-- One node more.
+pub record Added (h : Head) (nd : Node) (h′ : Head) (nodes children : List ℕ) (cuts : List ℤ) (nodes′ children′ : List ℕ) (cuts′ : List ℤ) (index′ : List ℕ) : Type 0 where
+  pub lent : Lent h′ nodes′ children′ cuts′ index′
+  pub stays : Stays h nodes children cuts h′ nodes′ children′ cuts′
+  pub used : h′ .used ≡ suc (h .used)
+  pub table : tableOf h′ nodes′ children′ cuts′ ≡ nd ∷ tableOf h nodes children cuts
+
+-- Nodes taken back, down to `used` of them: what is left of the table is as it was before they came.
+pub record TakenBack (used : ℕ) (h : Head) (nodes children : List ℕ) (cuts : List ℤ) (h′ : Head) (nodes′ children′ : List ℕ) (cuts′ : List ℤ) (index′ : List ℕ) : Type 0 where
+  pub lent : Lent h′ nodes′ children′ cuts′ index′
+  pub used-is : h′ .used ≡ used
+  pub stays : Stays h′ nodes′ children′ cuts′ h nodes children cuts

@@ -1,0 +1,116 @@
+// A node under construction: an array by value of 64 edge structs with a count.
+ghost use mathlib.Core.Path.{_≡_};
+ghost use mathlib.Core.Bool.{cond, _&&_};
+ghost use Prim.Native.Nat.{ℕ, _+_, _<_};
+ghost use lib.Dec.{ltb};
+ghost use lib.ListN.{length};
+ghost use Rattle.ids.specs.Id.{sign};
+ghost use Rattle.diagram.specs.Pieces.{last, cut};
+ghost use Rattle.diagram.specs.Room.{mostEdges};
+ghost use Rattle.diagram.specs.Table.{variables, isRange};
+ghost use Rattle.algebra.specs.Overlay.{merge};
+ghost use Rattle.making.specs.Building.{Building, cutIn, piecesOf, zeroCut, hashIn};
+ghost use Rattle.making.specs.Storing.{storedCut};
+use ids::NodeId;
+use ranges::places::ZERO;
+use ranges::places::place_at;
+use table::index::mixed;
+use table::limits::FIRST_BOOLEAN;
+use table::words::wide;
+
+// An edge goes up to its cut, the first position on its right. `spare` is 0 and nothing looks at it: it fills the struct to 16 bytes, and
+// an array without holes is set and copied as one block.
+pub struct Edge {
+    pub cut: usize,
+    pub child: NodeId,
+    pub spare: u32,
+}
+
+pub struct Edges {
+    pub list: [Edge; 64],
+    pub len: usize,
+}
+
+impl Edges {
+    pub fn new() -> Edges
+        ensures { λ r. ⌜ (length (r .list) ≡ mostEdges) × (r .len ≡ 0) ⌝ }
+    {
+        let e = Edge {
+            cut: 0,
+            child: NodeId(0),
+            spare: 0,
+        };
+        let list = [e; 64];
+        Edges { list, len: 0 }
+    }
+}
+
+// A high edge and a low one, merged where they agree.
+pub fn pair_of(high: NodeId, low: NodeId) -> Edges
+    ensures { λ r. ⌜ (Building r) × (piecesOf r ≡ merge (cut (high .0) 1 (last (low .0)))) ⌝ }
+{
+    let mut out = Edges::new();
+    out.list[0] = Edge {
+        cut: 1,
+        child: high,
+        spare: 0,
+    };
+    out.len = 1;
+    if high.0 == low.0 {
+        return out;
+    }
+    out.list[1] = Edge {
+        cut: 0,
+        child: low,
+        spare: 0,
+    };
+    out.len = 2;
+    out
+}
+
+// Whether edge j of `count` has a cut in the table: the last edge has none, and no edge of a boolean node.
+fn has_cut(v: usize, j: usize, count: usize) -> bool
+    requires { ⌜ j < mostEdges ⌝ }
+    ensures { λ r. ⌜ r ≡ (isRange v && ltb (j + 1) count) ⌝ }
+{
+    v < FIRST_BOOLEAN && j + 1 < count
+}
+
+// The position of the stored cut of edge j, as the index hashes it: its own, or that of the 0 which stands where there is none.
+pub fn key_of(v: usize, j: usize, count: usize, cut: usize) -> usize
+    requires { ⌜ j < mostEdges ⌝ }
+    ensures { λ r. ⌜ r ≡ cond (isRange v && ltb (j + 1) count) cut zeroCut ⌝ }
+{
+    if has_cut(v, j, count) {
+        return cut;
+    }
+    ZERO as usize
+}
+
+// The stored cut of edge j.
+pub fn stored_cut(v: usize, j: usize, count: usize, cut: usize) -> i64
+    requires { ⌜ (j < mostEdges) × (j + 1 < count → cut < 8589934593) ⌝ }
+    ensures { λ r. ⌜ r ≡ storedCut v j count cut ⌝ }
+{
+    if has_cut(v, j, count) {
+        return place_at(cut as u64);
+    }
+    0
+}
+
+// The hash of a node under construction, its children seen under the sign of `lead`.
+pub fn hash_edges(v: usize, lead: NodeId, es: Edges) -> usize
+    requires { ⌜ (Building es) × (v < variables) × ((j : ℕ) → j + 1 < es .len → cutIn es j < 8589934593) ⌝ }
+    ensures { λ r. ⌜ (r ≡ hashIn v (sign (lead .0)) es (es .len)) × (r < 4294967296) ⌝ }
+{
+    let n = es.len;
+    let mut h = v;
+    let mut j = 0;
+    while j < n {
+        let e = es.list[j];
+        let c = e.child.negate(lead);
+        h = mixed(h, wide(c.0), key_of(v, j, n, e.cut));
+        j += 1;
+    }
+    h
+}

@@ -1,0 +1,70 @@
+// Taking nodes back: an operation that finds no room leaves the table as it found it.
+ghost use mathlib.Core.Path.{_≡_};
+ghost use Prim.Native.Nat.{_+_, _-_, _≤_};
+ghost use lib.ListN.{length};
+ghost use Rattle.diagram.specs.Room.{mostEdges};
+ghost use Rattle.making.specs.Storing.{EdgesBlank};
+ghost use Rattle.making.specs.Outcome.{Lent, TakenBack};
+use super::nodes::Head;
+use super::nodes::put_record;
+use table::index::hash_of;
+use table::index::scaled;
+use table::words::count_of;
+use table::words::first_of;
+use table::words::var_of;
+
+// Makes `count` edges from e on blank.
+fn blank_edges(children: &mut [u32], cuts: &mut [i64], e: usize, count: usize)
+    requires { ⌜ (count ≤ mostEdges) × (e + count ≤ length (now children)) × (length (now cuts) ≡ length (now children)) ⌝ }
+    ensures { λ _. ⌜ EdgesBlank (now (children .entry)) (now (cuts .entry)) e count (now (children .exit)) (now (cuts .exit)) ⌝ }
+{
+    let mut j = 0;
+    while j < count {
+        children[e + j] = 0;
+        cuts[e + j] = 0;
+        j += 1;
+    }
+}
+
+// Takes the last node back. It stands in front of its bucket.
+fn pop(
+    nodes: &mut [u32],
+    children: &mut [u32],
+    cuts: &mut [i64],
+    index: &mut [u32],
+    head: Head,
+) -> Head
+    requires { ⌜ (Lent head (now nodes) (now children) (now cuts) (now index)) × (1 ≤ head .used) ⌝ }
+    ensures { λ r. ⌜ TakenBack (head .used - 1) head (now (nodes .entry)) (now (children .entry)) (now (cuts .entry)) r (now (nodes .exit)) (now (children .exit)) (now (cuts .exit)) (now (index .exit)) ⌝ }
+{
+    let rooms = nodes.len() / 4;
+    let n = head.used - 1;
+    let count = count_of(nodes, n);
+    let e = first_of(nodes, n);
+    let bucket = scaled(hash_of(children, cuts, var_of(nodes, n), e, count), rooms);
+    let before = index[rooms + n];
+    index[bucket] = before;
+    index[rooms + n] = 0;
+    blank_edges(children, cuts, e, count);
+    put_record(nodes, n, 0, 0, 0);
+    Head { used: n, edges: e }
+}
+
+// Takes back every node that came after the first `used`.
+pub fn undo(
+    nodes: &mut [u32],
+    children: &mut [u32],
+    cuts: &mut [i64],
+    index: &mut [u32],
+    head: Head,
+    used: usize,
+) -> Head
+    requires { ⌜ (Lent head (now nodes) (now children) (now cuts) (now index)) × (used ≤ head .used) ⌝ }
+    ensures { λ r. ⌜ TakenBack used head (now (nodes .entry)) (now (children .entry)) (now (cuts .entry)) r (now (nodes .exit)) (now (children .exit)) (now (cuts .exit)) (now (index .exit)) ⌝ }
+{
+    let mut now = head;
+    while used < now.used {
+        now = pop(nodes, children, cuts, index, now);
+    }
+    now
+}
