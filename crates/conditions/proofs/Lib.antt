@@ -1,0 +1,4 @@
+-- The laws behind conditions. Assumes nothing.
+pub mod Terminals
+pub mod Shapes
+pub mod Wanted

@@ -1,0 +1,102 @@
+-- What the proofs of the conditions hand their facts to: a node that can be made, and what is wanted of it. Assumes nothing.
+use mathlib.Core.Path.{_≡_, refl, sym, _∙_, ap, subst}
+use mathlib.Core.Bool.{true, false}
+use mathlib.Core.List.{List}
+use Prim.Native.Nat.{ℕ, _≤_, _<_}
+use native.Mathlib.Omega.{arith}
+use lib.IntN.{ℤ}
+use mir.Syntax.{w32}
+use mir.Val.{toZ, ofZ, SFits}
+use mir.ValLaws.{toZ-ofZ}
+use borrow.Author.Tests.{le-ltb}
+use Rattle.ids.specs.Id.{flip}
+use Rattle.ids.specs.declared.NodeId.{NodeId}
+use Rattle.ranges.specs.Line.{top}
+use Rattle.ranges.specs.declared.bounds.Bound.{Bound}
+use Rattle.ranges.specs.declared.bounds.Comparison.{Comparison}
+use Rattle.ranges.specs.declared.spans.Range.{Range}
+use Rattle.ranges.specs.declared.spans.Compared.{Compared}
+use Rattle.ranges.specs.Holding.{Bounded, Compares}
+use Rattle.diagram.specs.Pieces.{last, cut, Reduced}
+use Rattle.diagram.specs.Table.{variables, firstBoolean, topOf, Table}
+use Rattle.diagram.specs.Cofactor.{map}
+use Rattle.diagram.proofs.Readings.{range-top}
+use Rattle.algebra.specs.Making.{settle, create-node}
+use Rattle.algebra.specs.Conditions.{between, terminal, from-range, comparison, from-bool}
+use Rattle.table.proofs.Laws.{clash}
+use Rattle.making.specs.declared.edges.Edges as built
+use Rattle.making.specs.declared.nodes.Head.{Head}
+use Rattle.making.specs.declared.nodes.Made.{Made}
+use Rattle.making.specs.Building.{Building, piecesOf}
+use Rattle.making.specs.Outcome.{Outcome, Untouched, Buildable}
+use Rattle.conditions.proofs.Terminals.{reduced-between, terminals-buildable, terminals-settle}
+
+-- The edges of a range of positions, at a range variable: its top is that of the line.
+module _ (t : Table) {v : ℕ} (hv : v < firstBoolean) {es : built.Edges} (lo hi : ℕ) (b : Building es × (piecesOf es ≡ map terminal (between lo hi top))) (l : lo ≤ top) where
+  same : piecesOf es ≡ map terminal (between lo hi (topOf v))
+  same = b .1 ∙ ap (λ (n : ℕ). map terminal (between lo hi n)) (sym (range-top v hv))
+
+  reduced : Reduced 0 (topOf v) (between lo hi (topOf v))
+  reduced = reduced-between lo hi (topOf v) (omega (arith, range-top v hv))
+
+  pub range-buildable : Buildable t v es
+  range-buildable = terminals-buildable t v (omega arith) es (b .0) (between lo hi (topOf v)) same reduced
+
+  pub range-settles : settle t v (piecesOf es) ≡ create-node t v (map terminal (between lo hi (topOf v)))
+  range-settles = terminals-settle t v (omega arith) es (b .0) (between lo hi (topOf v)) same reduced
+
+-- The edges of a boolean.
+module _ (t : Table) {v : ℕ} (lv : firstBoolean ≤ v) (hv : v < variables) {es : built.Edges} (b : Building es × (piecesOf es ≡ cut 0 1 (last 1))) where
+  two : Reduced 0 (topOf v) (cut true 1 (last false))
+  two = rw (le-ltb v firstBoolean lv) (omega arith, omega arith, (λ q. clash q refl), omega arith)
+
+  same-two : piecesOf es ≡ map terminal (cut true 1 (last false))
+  unfolding map
+  same-two = b .1
+
+  pub bool-buildable : Buildable t v es
+  bool-buildable = terminals-buildable t v hv es (b .0) (cut true 1 (last false)) same-two two
+
+  pub bool-settles : settle t v (piecesOf es) ≡ from-bool t v
+  unfolding from-bool map
+  bool-settles = terminals-settle t v hv es (b .0) (cut true 1 (last false)) same-two two
+
+-- The positions between two bounds, and those of a comparison.
+pub range-wanted : (t : Table) (v : ℕ) {lower upper : Bound} {r : Range} → Bounded lower upper r → create-node t v (map terminal (between (r .first) (r .last) (topOf v))) ≡ from-range t v lower upper
+unfolding from-range
+range-wanted t v b = rw (b .first, b .last)
+
+-- The code hands a key on as 32 bits.
+pub key-handed : {op : Comparison} {key : ℤ} {c : Compared} → SFits w32 key → Compares op (toZ w32 (ofZ w32 key)) c → Compares op key c
+key-handed {key = key} f k = rw (toZ-ofZ w32 key f) at k
+
+-- What a making function of one node promises.
+abbrev pub Promised : Head → List ℕ → List ℕ → List ℤ → List ℕ → List ℕ → List ℕ → List ℤ → List ℕ → Table × ℕ → Made → Type 0
+Promised h nodes children cuts index nodes′ children′ cuts′ index′ want r =
+    Outcome h want r nodes children cuts nodes′ children′ cuts′ index′ × (r .ok ≡ false → Untouched nodes children cuts index nodes′ children′ cuts′ index′)
+
+module _ {h : Head} {nodes children : List ℕ} {cuts : List ℤ} {index nodes′ children′ : List ℕ} {cuts′ : List ℤ} {index′ : List ℕ} where
+  -- What is promised under one name is promised under another.
+  pub promised-as : {want other : Table × ℕ} {r : Made} → Promised h nodes children cuts index nodes′ children′ cuts′ index′ want r → want ≡ other → Promised h nodes children cuts index nodes′ children′ cuts′ index′ other r
+  promised-as {r = r} p e = subst (λ (w : Table × ℕ). Promised h nodes children cuts index nodes′ children′ cuts′ index′ w r) e p
+
+  module _ (t : Table) (v : ℕ) {op : Comparison} {key : ℤ} {c : Compared} (k : Compares op key c) {r : Made} (p : Promised h nodes children cuts index nodes′ children′ cuts′ index′ (create-node t v (map terminal (between (c .range .first) (c .range .last) (topOf v)))) r) where
+    -- A comparison that holds inside its range is that range,
+    pub inside-wanted : c .outside ≡ false → Promised h nodes children cuts index nodes′ children′ cuts′ index′ (comparison t v op key) r
+    unfolding comparison
+    inside-wanted e = let o = sym (k .side) ∙ e in rw o (promised-as p (range-wanted t v (k .between)))
+
+    -- != is it flipped,
+    pub outside-wanted : c .outside ≡ true → r .ok ≡ true → (id : NodeId) → id .0 ≡ flip (r .id .0) → Promised h nodes children cuts index nodes′ children′ cuts′ index′ (comparison t v op key) (record { ok = true; id = id; head = r .head })
+    unfolding comparison
+    outside-wanted e y id q =
+        let o = sym (k .side) ∙ e in
+        let w = promised-as p (range-wanted t v (k .between)) .0 in
+        rw o (record { lent = w .lent; stays = w .stays; table = λ x. w .table y; id = λ x. q ∙ ap flip (w .id y); full = λ x. absurd (clash x refl) }, λ x. absurd (clash x refl))
+
+    -- and where there is no room for it there is none for either.
+    pub full-wanted : r .ok ≡ false → Promised h nodes children cuts index nodes′ children′ cuts′ index′ (comparison t v op key) r
+    unfolding comparison
+    full-wanted n =
+        let w = promised-as p (range-wanted t v (k .between)) in
+        (record { lent = w .0 .lent; stays = w .0 .stays; table = λ x. absurd (clash n x); id = λ x. absurd (clash n x); full = w .0 .full }, w .1)

@@ -1,0 +1,2 @@
+-- The edges of a condition. Assumes nothing.
+pub mod Few

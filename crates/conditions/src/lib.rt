@@ -1,0 +1,159 @@
+// Conditions on one variable. Document 01, step 3; `from_range`, `from_string` and `from_bool` of the source. Each makes at most one node,
+// over the terminals.
+ghost use mathlib.Core.Path.{_≡_};
+ghost use mathlib.Core.Bool.{false};
+ghost use Prim.Native.Nat.{_-_, _≤_, _<_};
+ghost use Rattle.ranges.specs.Line.{top};
+ghost use Rattle.diagram.specs.Table.{firstBoolean, variables, topOf};
+ghost use Rattle.diagram.specs.Cofactor.{map};
+ghost use Rattle.algebra.specs.Making.{create-node};
+ghost use Rattle.algebra.specs.Conditions.{between, terminal, from-range, comparison, from-bool};
+ghost use Rattle.making.specs.Building.{Building, piecesOf};
+ghost use Rattle.making.specs.Outcome.{Lent, Outcome, Untouched, tableOf};
+ghost use Rattle.conditions.specs.Few.{few};
+use ids::NodeId;
+use making::edges::Edge;
+use making::edges::Edges;
+use making::nodes::Head;
+use making::nodes::Made;
+use making::nodes::create_node;
+use ranges::bounds::Bound;
+use ranges::bounds::Comparison;
+use ranges::places::TOP;
+use ranges::spans::Range;
+
+// The first `len` of three edges.
+fn few_edges(len: usize, a: Edge, b: Edge, c: Edge) -> Edges
+    requires { ⌜ (1 ≤ len) × (len ≤ 3) ⌝ }
+    ensures { λ r. ⌜ (Building r) × (piecesOf r ≡ few (len - 1) a b c) ⌝ }
+{
+    let mut es = Edges::new();
+    es.list[0] = a;
+    es.list[1] = b;
+    es.list[2] = c;
+    es.len = len;
+    es
+}
+
+// FALSE up to a range of positions, TRUE in it, and FALSE above it. A part without a position has no edge, and so no two neighbours agree.
+fn edges_of(r: Range) -> Edges
+    requires { ⌜ (r .first ≤ top) × (r .last ≤ top) ⌝ }
+    ensures { λ es. ⌜ (Building es) × (piecesOf es ≡ map terminal (between (r .first) (r .last) top)) ⌝ }
+{
+    let below = Edge {
+        cut: r.first as usize,
+        child: NodeId::FALSE,
+        spare: 0,
+    };
+    let inside = Edge {
+        cut: r.last as usize + 1,
+        child: NodeId::TRUE,
+        spare: 0,
+    };
+    let above = Edge {
+        cut: 0,
+        child: NodeId::FALSE,
+        spare: 0,
+    };
+    if r.last < r.first {
+        return few_edges(1, above, above, above);
+    }
+    let mut len = 1;
+    if r.last < TOP {
+        len = 2;
+    }
+    if r.first == 0 {
+        return few_edges(len, inside, above, above);
+    }
+    few_edges(len + 1, below, inside, above)
+}
+
+// The condition that variable v lies in a range of positions.
+fn within(
+    nodes: &mut [u32],
+    children: &mut [u32],
+    cuts: &mut [i64],
+    index: &mut [u32],
+    head: Head,
+    v: usize,
+    range: Range,
+) -> Made
+    requires { ⌜ (Lent head (now nodes) (now children) (now cuts) (now index)) × (v < firstBoolean) × (range .first ≤ top) × (range .last ≤ top) ⌝ }
+    ensures { λ r. ⌜ (Outcome head (create-node (tableOf head (now (nodes .entry)) (now (children .entry)) (now (cuts .entry))) v (map terminal (between (range .first) (range .last) (topOf v)))) r (now (nodes .entry)) (now (children .entry)) (now (cuts .entry)) (now (nodes .exit)) (now (children .exit)) (now (cuts .exit)) (now (index .exit))) × (r .ok ≡ false → Untouched (now (nodes .entry)) (now (children .entry)) (now (cuts .entry)) (now (index .entry)) (now (nodes .exit)) (now (children .exit)) (now (cuts .exit)) (now (index .exit))) ⌝ }
+{
+    let es = edges_of(range);
+    create_node(nodes, children, cuts, index, head, v, es)
+}
+
+// "A range by two bounds".
+pub fn from_range(
+    nodes: &mut [u32],
+    children: &mut [u32],
+    cuts: &mut [i64],
+    index: &mut [u32],
+    head: Head,
+    v: usize,
+    lower: Bound,
+    upper: Bound,
+) -> Made
+    requires { ⌜ (Lent head (now nodes) (now children) (now cuts) (now index)) × (v < firstBoolean) ⌝ }
+    ensures { λ r. ⌜ (Outcome head (from-range (tableOf head (now (nodes .entry)) (now (children .entry)) (now (cuts .entry))) v lower upper) r (now (nodes .entry)) (now (children .entry)) (now (cuts .entry)) (now (nodes .exit)) (now (children .exit)) (now (cuts .exit)) (now (index .exit))) × (r .ok ≡ false → Untouched (now (nodes .entry)) (now (children .entry)) (now (cuts .entry)) (now (index .entry)) (now (nodes .exit)) (now (children .exit)) (now (cuts .exit)) (now (index .exit))) ⌝ }
+{
+    let range = Range::from_bounds(lower, upper);
+    within(nodes, children, cuts, index, head, v, range)
+}
+
+// "Six comparisons with a key: = != < <= > >=". The id for != is that for =, flipped.
+pub fn from_comparison(
+    nodes: &mut [u32],
+    children: &mut [u32],
+    cuts: &mut [i64],
+    index: &mut [u32],
+    head: Head,
+    v: usize,
+    op: Comparison,
+    key: i32,
+) -> Made
+    requires { ⌜ (Lent head (now nodes) (now children) (now cuts) (now index)) × (v < firstBoolean) ⌝ }
+    ensures { λ r. ⌜ (Outcome head (comparison (tableOf head (now (nodes .entry)) (now (children .entry)) (now (cuts .entry))) v op key) r (now (nodes .entry)) (now (children .entry)) (now (cuts .entry)) (now (nodes .exit)) (now (children .exit)) (now (cuts .exit)) (now (index .exit))) × (r .ok ≡ false → Untouched (now (nodes .entry)) (now (children .entry)) (now (cuts .entry)) (now (index .entry)) (now (nodes .exit)) (now (children .exit)) (now (cuts .exit)) (now (index .exit))) ⌝ }
+{
+    let compared = ranges::spans::from_comparison(op, key);
+    let range = compared.range;
+    let made = within(nodes, children, cuts, index, head, v, range);
+    if compared.outside && made.ok {
+        let id = made.id;
+        let head = made.head;
+        return Made {
+            ok: true,
+            id: id.not(),
+            head,
+        };
+    }
+    made
+}
+
+// A boolean: TRUE at yes, whose edge is the high one and stands first, and FALSE at no.
+pub fn from_bool(
+    nodes: &mut [u32],
+    children: &mut [u32],
+    cuts: &mut [i64],
+    index: &mut [u32],
+    head: Head,
+    v: usize,
+) -> Made
+    requires { ⌜ (Lent head (now nodes) (now children) (now cuts) (now index)) × (firstBoolean ≤ v) × (v < variables) ⌝ }
+    ensures { λ r. ⌜ (Outcome head (from-bool (tableOf head (now (nodes .entry)) (now (children .entry)) (now (cuts .entry))) v) r (now (nodes .entry)) (now (children .entry)) (now (cuts .entry)) (now (nodes .exit)) (now (children .exit)) (now (cuts .exit)) (now (index .exit))) × (r .ok ≡ false → Untouched (now (nodes .entry)) (now (children .entry)) (now (cuts .entry)) (now (index .entry)) (now (nodes .exit)) (now (children .exit)) (now (cuts .exit)) (now (index .exit))) ⌝ }
+{
+    let high = Edge {
+        cut: 1,
+        child: NodeId::TRUE,
+        spare: 0,
+    };
+    let low = Edge {
+        cut: 1,
+        child: NodeId::FALSE,
+        spare: 0,
+    };
+    let es = few_edges(2, high, low, low);
+    create_node(nodes, children, cuts, index, head, v, es)
+}
