@@ -1,0 +1,2 @@
+-- What disjointness asks of a lent table. Assumes nothing.
+pub mod Asking

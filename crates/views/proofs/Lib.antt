@@ -1,0 +1,3 @@
+-- The laws behind views. Assumes nothing.
+pub mod Tests
+pub mod Sights

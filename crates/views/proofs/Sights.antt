@@ -1,0 +1,234 @@
+-- Laws of views: the edges that a view shows, one by one, and that they are the edges of its id. Assumes nothing.
+use mathlib.Core.Path.{_≡_, refl, sym, _∙_, ap, ap₂, subst}
+use mathlib.Core.Bool.{Bool, true, false}
+use mathlib.Core.Logic.{⊎-elim}
+use mathlib.Core.List.{List}
+use Prim.Native.Nat.{ℕ, zero, suc, _+_, _-_, _/_, _≤_, _<_}
+use native.Mathlib.Omega.{arith}
+use native.Mathlib.Numerals.{add-one}
+use borrow.Author.Tests.{lt-ltb, le-ltb, eqb-true, eqb-false, eq-eqb, ne-eqb}
+use lib.Dec.{eqb}
+use lib.ListN.{length}
+use lib.IntN.{ℤ}
+use Rattle.ids.specs.Id.{sign, ref, under}
+use Rattle.ids.specs.Index.{KnownTo}
+use Rattle.diagram.specs.Pieces.{last, cut, count, Each, Rising, run}
+use Rattle.diagram.specs.Table.{variables, firstBoolean, topOf, Node, Table, at}
+use Rattle.diagram.specs.Cofactor.{map, edgesOf}
+use Rattle.diagram.specs.Sound.{Child}
+use Rattle.diagram.proofs.Piecewise.{rising-down}
+use Rattle.diagram.proofs.Numbered.{count-run, each-run, run-shift, map-run}
+use Rattle.diagram.proofs.Runs.{count-most}
+use Rattle.diagram.proofs.Readings.{bool-top}
+use Rattle.diagram.proofs.Cofactors.{edge-own, edge-other, edges-of, edges-rising}
+use Rattle.table.specs.Layout.{varAt, countAt, firstAt, kidAt, cutAt, level, start}
+use Rattle.table.specs.Lent.{Rules, SoundLent}
+use Rattle.table.specs.Held.{edgesFrom, nodeAt, held}
+use Rattle.table.specs.Told.{Allowed}
+use Rattle.table.proofs.Laws as laws
+use Rattle.table.proofs.Scan.{table-length}
+use Rattle.table.proofs.Bridge.{edges-run, range-edges, bool-edges, table-at, ordered}
+use Rattle.table.proofs.Promises.{edges-fit}
+use Rattle.views.specs.Seeing.{Readable, Asked, childSeen, cutSeen, seen, Inside, Views}
+use Rattle.views.specs.declared.View.{View}
+
+module _ (children : List ℕ) (cuts : List ℤ) (v : ℕ) (w : View) where
+  -- the edges from edge j on, by whether it is the last
+  pub seen-last : (j : ℕ) → w .count ≡ j + 1 → seen children cuts v w j ≡ last (childSeen children w j)
+  unfolding seen run
+  seen-last j e = let a : w .count - 1 - j ≡ 0 = omega arith in ap (run (childSeen children w) (cutSeen cuts v w) j) a
+
+  pub seen-cut : (j : ℕ) → j + 1 < w .count → seen children cuts v w j ≡ cut (childSeen children w j) (cutSeen cuts v w j) (seen children cuts v w (j + 1))
+  unfolding seen run
+  seen-cut j h =
+      let a : w .count - 1 - j ≡ suc (w .count - 1 - (j + 1)) = omega arith in
+      ap (run (childSeen children w) (cutSeen cuts v w) j) a ∙ ap (λ (i : ℕ). cut (childSeen children w j) (cutSeen cuts v w j) (run (childSeen children w) (cutSeen cuts v w) i (w .count - 1 - (j + 1)))) (sym (add-one j))
+
+  pub seen-count : 1 ≤ w .count → count (seen children cuts v w 0) ≡ w .count
+  unfolding seen
+  seen-count h = count-run (childSeen children w) (cutSeen cuts v w) 0 (w .count - 1 - 0) ∙ (let a : suc (w .count - 1 - 0) ≡ w .count = omega arith in a)
+
+  -- what each child of a view has
+  pub seen-each : (P : ℕ → Type 0) → Each P (seen children cuts v w 0) → (j : ℕ) → j < w .count → P (childSeen children w j)
+  unfolding seen
+  seen-each P e j h = each-run (childSeen children w) (cutSeen cuts v w) P (w .count - 1 - 0) e j (omega arith)
+
+  -- one step along cuts that rise
+  pub rising-next : (b t j : ℕ) → Rising b t (seen children cuts v w j) → j + 1 < w .count → (b < cutSeen cuts v w j) × (cutSeen cuts v w j ≤ t) × Rising (cutSeen cuts v w j) t (seen children cuts v w (j + 1))
+  rising-next b t j r h = rw (seen-cut j h) at r
+
+  pub rising-from : (t : ℕ) → Rising 0 t (seen children cuts v w 0) → (j : ℕ) → j < w .count → Rising 0 t (seen children cuts v w j)
+  rising-from t r zero h = r
+  rising-from t r (suc j) h = let s = rising-next 0 t j (rising-from t r j (omega arith)) (omega arith) in subst (λ (i : ℕ). Rising 0 t (seen children cuts v w i)) (add-one j) (rising-down 0 (cutSeen cuts v w j) t (seen children cuts v w (j + 1)) (omega arith) (s .2))
+
+  -- a cut stands within the positions, and the cuts after it above it
+  pub rising-cut : (t : ℕ) → Rising 0 t (seen children cuts v w 0) → (j : ℕ) → j + 1 < w .count → (0 < cutSeen cuts v w j) × (cutSeen cuts v w j ≤ t) × Rising (cutSeen cuts v w j) t (seen children cuts v w (j + 1))
+  rising-cut t r j h = rising-next 0 t j (rising-from t r j (omega arith)) h
+
+  -- a view of one edge
+  pub seen-one : w .count ≡ 1 → seen children cuts v w 0 ≡ last (childSeen children w 0)
+  seen-one h = seen-last 0 h
+
+-- a cut is that of the table, or 1
+pub cutSeen-range : (cuts : List ℤ) (v : ℕ) (w : View) (j : ℕ) → v < firstBoolean → cutSeen cuts v w j ≡ cutSeen cuts 0 w j
+unfolding cutSeen
+cutSeen-range cuts v w j h = rw (lt-ltb v 32 h)
+
+pub cutSeen-bool : (cuts : List ℤ) (v : ℕ) (w : View) (j : ℕ) → firstBoolean ≤ v → cutSeen cuts v w j ≡ 1
+unfolding cutSeen
+cutSeen-bool cuts v w j h = rw (le-ltb v 32 h)
+
+-- so that a view shows the same at each variable of a kind
+pub seen-range : (children : List ℕ) (cuts : List ℤ) (v : ℕ) (w : View) (j : ℕ) → v < firstBoolean → seen children cuts v w j ≡ seen children cuts 0 w j
+unfolding seen
+seen-range children cuts v w j h = run-shift (childSeen children w) (childSeen children w) (cutSeen cuts v w) (cutSeen cuts 0 w) j j (w .count - 1 - j) (λ i l. refl) (λ i l. cutSeen-range cuts v w (j + i) h)
+
+pub seen-bool : (children : List ℕ) (cuts : List ℤ) (v : ℕ) (w : View) (j : ℕ) → firstBoolean ≤ v → seen children cuts v w j ≡ seen children cuts firstBoolean w j
+unfolding seen
+seen-bool children cuts v w j h = run-shift (childSeen children w) (childSeen children w) (cutSeen cuts v w) (cutSeen cuts firstBoolean w) j j (w .count - 1 - j) (λ i l. refl) (λ i l. cutSeen-bool cuts v w (j + i) h ∙ sym (cutSeen-bool cuts firstBoolean w (j + i) (omega arith)))
+
+-- the cut that stands in the table
+pub cutSeen-level : (cuts : List ℤ) (w : View) (j : ℕ) → cutSeen cuts 0 w j ≡ level (cutAt cuts (w .first + j))
+unfolding cutSeen
+cutSeen-level cuts w j = refl
+
+-- a child is the id itself, or that of the table under its sign
+pub childSeen-own : (children : List ℕ) (w : View) (j : ℕ) → w .count ≡ 1 → childSeen children w j ≡ w .id .0
+unfolding childSeen
+childSeen-own children w j h = rw (eq-eqb (w .count) 1 h)
+
+pub childSeen-kid : (children : List ℕ) (w : View) (j : ℕ) → (w .count ≡ 1 → ⊥) → childSeen children w j ≡ under (sign (w .id .0)) (kidAt children (w .first + j))
+unfolding childSeen
+childSeen-kid children w j h = rw (ne-eqb (w .count) 1 h)
+
+-- a view of both edges of a boolean variable
+pub seen-two : (children : List ℕ) (cuts : List ℤ) (v : ℕ) (w : View) → firstBoolean ≤ v → w .count ≡ 2 → seen children cuts v w 0 ≡ cut (childSeen children w 0) 1 (last (childSeen children w 1))
+seen-two children cuts v w b h =
+    let c = cutSeen-bool cuts v w 0 b in
+    let l = seen-last children cuts v w 1 h in
+    seen-cut children cuts v w 0 (omega arith) ∙ (λ n. cut (childSeen children w 0) (c n) (l n))
+
+-- a view that lies within some edges lies within more
+pub inside-wider : (e f : ℕ) (w : View) → e ≤ f → Inside e w → Inside f w
+inside-wider e f w h i = record { some = i .some; most = i .most; within = λ l. omega (arith, i .within l) }
+
+-- what a view shows stays where the words below stay
+module _ (children children′ : List ℕ) (cuts cuts′ : List ℤ) (v e : ℕ) (w : View) (i : Inside e w) where
+  pub childSeen-stays : ((k : ℕ) → k < e → kidAt children′ k ≡ kidAt children k) → (j : ℕ) → j < w .count → childSeen children′ w j ≡ childSeen children w j
+  childSeen-stays same j h = go (eqb (w .count) 1) refl
+    where
+      go : (b : Bool) → eqb (w .count) 1 ≡ b → childSeen children′ w j ≡ childSeen children w j
+      go true q = let o = eqb-true (w .count) 1 q in childSeen-own children′ w j o ∙ sym (childSeen-own children w j o)
+      go false q =
+          let n = eqb-false (w .count) 1 q in
+          childSeen-kid children′ w j n ∙ (ap (under (sign (w .id .0))) (same (w .first + j) (omega (arith, n, i .within (omega (arith, n, i .some))))) ∙ sym (childSeen-kid children w j n))
+
+  pub cutSeen-stays : ((k : ℕ) → k < e → cutAt cuts′ k ≡ cutAt cuts k) → (j : ℕ) → j + 1 < w .count → cutSeen cuts′ v w j ≡ cutSeen cuts v w j
+  unfolding cutSeen
+  cutSeen-stays same j h = rw (same (w .first + j) (omega (arith, i .within (omega arith))))
+
+module _ (nodes children : List ℕ) (cuts : List ℤ) where
+  -- a view of all edges of record n shows them
+  view-range : (n : ℕ) (w : View) → Rules nodes children cuts n → varAt nodes n < 32 → w .first ≡ firstAt nodes n → w .count ≡ countAt nodes n → seen children cuts (varAt nodes n) w 0 ≡ map (under (sign (w .id .0))) (nodeAt nodes children cuts n .edges)
+  unfolding seen
+  view-range n w r h f k =
+      let s = sign (w .id .0) in
+      let m = w .count - 1 - 0 in
+      let b : m ≡ countAt nodes n - 1 = omega arith in
+      run-shift (childSeen children w) (λ j. under s (kidAt children (w .first + j))) (cutSeen cuts (varAt nodes n) w) (λ j. level (cutAt cuts (w .first + j))) 0 0 m
+      (λ j l. childSeen-kid children w (0 + j) (λ q. omega (arith, r .many))) (λ j l. cutSeen-range cuts (varAt nodes n) w (0 + j) h ∙ cutSeen-level cuts w (0 + j))
+      ∙ (sym (map-run (under s) (λ j. kidAt children (w .first + j)) (λ j. level (cutAt cuts (w .first + j))) 0 m)
+      ∙ ap (map (under s)) (sym (edges-run children cuts (w .first) m) ∙ ((λ i. edgesFrom children cuts (f i) (b i)) ∙ sym (range-edges children cuts (varAt nodes n) (firstAt nodes n) (countAt nodes n) h))))
+
+  view-bool : (n : ℕ) (w : View) → Rules nodes children cuts n → 32 ≤ varAt nodes n → w .first ≡ firstAt nodes n → w .count ≡ countAt nodes n → seen children cuts (varAt nodes n) w 0 ≡ map (under (sign (w .id .0))) (nodeAt nodes children cuts n .edges)
+  unfolding map
+  view-bool n w r h f k =
+      let s = sign (w .id .0) in
+      let a : w .first + 0 ≡ firstAt nodes n = omega arith in
+      let b : w .first + 1 ≡ firstAt nodes n + 1 = omega arith in
+      let p = childSeen-kid children w 0 (λ q. omega (arith, r .many)) ∙ ap (λ (i : ℕ). under s (kidAt children i)) a in
+      let q = childSeen-kid children w 1 (λ q. omega (arith, r .many)) ∙ ap (λ (i : ℕ). under s (kidAt children i)) b in
+      seen-two children cuts (varAt nodes n) w h (k ∙ r .two h)
+      ∙ ((λ i. cut (p i) 1 (last (q i))) ∙ ap (map (under s)) (sym (bool-edges children cuts (varAt nodes n) (firstAt nodes n) (countAt nodes n) h)))
+
+  view-record : (n : ℕ) (w : View) → Rules nodes children cuts n → w .first ≡ firstAt nodes n → w .count ≡ countAt nodes n → seen children cuts (varAt nodes n) w 0 ≡ map (under (sign (w .id .0))) (nodeAt nodes children cuts n .edges)
+  view-record n w r f k = ⊎-elim (λ h. view-range n w r h f k) (λ h. view-bool n w r h f k) (laws.split (varAt nodes n) 32)
+
+module _ (nodes children : List ℕ) (cuts : List ℤ) (u id : ℕ) (r : Readable nodes children cuts u) (a : 2 ≤ id) (b : KnownTo u id) where
+  -- the node of an id that is no terminal
+  pub node-at : at (held nodes children cuts u) (ref id) ≡ nodeAt nodes children cuts (id / 2 - 1)
+  node-at = let e : id / 2 ≡ suc (id / 2 - 1) = omega arith in ap (at (held nodes children cuts u)) e ∙ table-at nodes children cuts u (id / 2 - 1) (omega arith)
+
+  pub node-var : (at (held nodes children cuts u) (ref id)) .var ≡ varAt nodes (id / 2 - 1)
+  node-var = ap (λ (x : Node). x .var) node-at
+
+  pub node-rules : Rules nodes children cuts (id / 2 - 1)
+  node-rules = r .rules (id / 2 - 1) (omega arith)
+
+  -- the view of its own edges, at its own variable
+  pub views-own : (v : ℕ) (w : View) → varAt nodes (id / 2 - 1) ≡ v → w .id .0 ≡ id → w .first ≡ firstAt nodes (id / 2 - 1) → w .count ≡ countAt nodes (id / 2 - 1) → Views nodes children cuts u v id w
+  views-own v w e i f k =
+      let n = id / 2 - 1 in
+      let q = node-rules in
+      record {
+        inside = record { some = omega (arith, q .many); most = omega (arith, q .most); within = λ l. omega (arith, laws.edges-before {n = n} {u = u} (omega arith) q) };
+        edges = (λ x. seen children cuts (sym e x) w 0) ∙ (view-record nodes children cuts n w q f k
+            ∙ (ap₂ (λ (s : ℕ) (x : Node). map (under (sign s)) (x .edges)) i (sym node-at) ∙ sym (edge-own (held nodes children cuts u) v id (node-var ∙ e))));
+      }
+
+  -- at another variable the id stands for itself
+  pub views-other : (v : ℕ) (w : View) → (varAt nodes (id / 2 - 1) ≡ v → ⊥) → w .id .0 ≡ id → w .count ≡ 1 → Views nodes children cuts u v id w
+  views-other v w n i k = record {
+    inside = record { some = omega arith; most = omega arith; within = λ l. absurd (omega arith) };
+    edges = seen-one children cuts v w k ∙ (ap last (childSeen-own children w 0 k ∙ i) ∙ sym (edge-other (held nodes children cuts u) v id (λ e. n (sym node-var ∙ e))));
+  }
+
+-- what is known of the edges that a view shows, of an id whose variable is v or later
+module _ (nodes children : List ℕ) (cuts : List ℤ) (u v id : ℕ) (w : View) (r : Readable nodes children cuts u) (hv : v < variables) (k : Child (held nodes children cuts u) v id) (x : Views nodes children cuts u v id w) where
+  pub views-rising : Rising 0 (topOf v) (seen children cuts v w 0)
+  views-rising = subst (Rising 0 (topOf v)) (sym (x .edges)) (edges-rising (held nodes children cuts u) (r .sound) v id hv k)
+
+  pub views-kids : Each (Child (held nodes children cuts u) (suc v)) (seen children cuts v w 0)
+  views-kids = subst (Each (Child (held nodes children cuts u) (suc v))) (sym (x .edges)) (edges-of (held nodes children cuts u) (r .sound) v id hv k .kids)
+
+  -- an id has at most two edges at a boolean variable
+  pub count-bool : firstBoolean ≤ v → w .count ≤ 2
+  count-bool h =
+      let m = count-most 0 (topOf v) (edgesOf (held nodes children cuts u) v id) (edges-of (held nodes children cuts u) (r .sound) v id hv k .reduced) in
+      omega (arith, bool-top v h, m, ap count (x .edges), seen-count children cuts v w (x .inside .some))
+
+-- the view lies within the words
+pub views-inside : (nodes children : List ℕ) (cuts : List ℤ) (u v id : ℕ) (w : View) → Readable nodes children cuts u → Views nodes children cuts u v id w → Inside (length children) w
+views-inside nodes children cuts u v id w r x = inside-wider (start nodes u) (length children) w (edges-fit nodes children cuts u (r .rules)) (x .inside)
+
+-- the known ids of the table, by its length
+pub known-held : (nodes children : List ℕ) (cuts : List ℤ) (u id : ℕ) → KnownTo u id → KnownTo (length (held nodes children cuts u)) id
+known-held nodes children cuts u id h = let l = table-length nodes children cuts u in omega arith
+
+pub known-used : (nodes children : List ℕ) (cuts : List ℤ) (u id : ℕ) → KnownTo (length (held nodes children cuts u)) id → KnownTo u id
+known-used nodes children cuts u id h = let l = table-length nodes children cuts u in omega arith
+
+-- a sound lent table can be read
+pub readable : (nodes children : List ℕ) (cuts : List ℤ) (index : List ℕ) (u : ℕ) → Allowed nodes children cuts index → SoundLent nodes children cuts index u → Readable nodes children cuts u
+readable nodes children cuts index u a s = record { fits = omega (arith, s .fits); cut-each = a .cut-each; small = omega (arith, s .fits, a .most-nodes); rules = s .rules; sound = ordered nodes children cuts index u s }
+
+-- with more levels than there are variables, every known id may be asked about
+pub asked-all : {t : Table} {u id : ℕ} → KnownTo u id → Asked t u (variables + 1) id
+asked-all k = record { known = k; ahead = omega arith }
+
+-- what the functions read, as the laws above want it
+pub one-more : {n : ℕ} → 1 ≤ n → (n ≡ 1 → ⊥) → 1 < n
+one-more h q = omega (arith, q)
+
+module _ {nodes children : List ℕ} {cuts : List ℤ} {u id x y : ℕ} (r : Readable nodes children cuts u) (a : 2 ≤ id) (b : KnownTo u id) (wide : x ≡ id) where
+  pub variable-is : y ≡ varAt nodes (x / 2 - 1) → (y ≡ (at (held nodes children cuts u) (ref id)) .var) × (y < variables)
+  variable-is e =
+      let q = e ∙ ap (λ (z : ℕ). varAt nodes (z / 2 - 1)) wide in
+      (q ∙ sym (node-var nodes children cuts u id r a b), omega (arith, q, node-rules nodes children cuts u id r a b .known))
+
+  pub other-seen : {v : ℕ} {w : View} → y ≡ varAt nodes (x / 2 - 1) → (y ≡ v → ⊥) → w .id .0 ≡ id → w .count ≡ 1 → Views nodes children cuts u v id w
+  other-seen {v} {w} e d i k = views-other nodes children cuts u id r a b v w (λ q. d (e ∙ (ap (λ (z : ℕ). varAt nodes (z / 2 - 1)) wide ∙ q))) i k
+
+  pub own-seen : {v : ℕ} {w : View} → y ≡ varAt nodes (x / 2 - 1) → y ≡ v → w .id .0 ≡ id → w .first ≡ firstAt nodes (x / 2 - 1) → w .count ≡ countAt nodes (x / 2 - 1) → Views nodes children cuts u v id w
+  own-seen {v} {w} e d i f k =
+      views-own nodes children cuts u id r a b v w (sym (ap (λ (z : ℕ). varAt nodes (z / 2 - 1)) wide) ∙ (sym e ∙ d)) i (f ∙ ap (λ (z : ℕ). firstAt nodes (z / 2 - 1)) wide) (k ∙ ap (λ (z : ℕ). countAt nodes (z / 2 - 1)) wide)
