@@ -1,0 +1,153 @@
+-- What the pair walk asks of the table, and that the merge of both sides is what it answers. Assumes nothing.
+use mathlib.Core.Path.{_≡_, sym, _∙_, ap, ap₂, subst}
+use mathlib.Core.Bool.{Bool, not, _&&_}
+use mathlib.Core.List.{List}
+use mathlib.Core.Logic.{_⊎_, inl, inr, ⊎-elim}
+use mathlib.Core.Option.{none, some}
+use Prim.Native.Nat.{ℕ, suc, _+_, _-_, _≤_, _<_, min}
+use native.Mathlib.Omega.{arith}
+use native.Mathlib.Decide.{ℕ-discrete}
+use lib.Dec.{eqb}
+use lib.IntN.{ℤ}
+use borrow.Author.Tests.{lt-ltb, eq-eqb, ne-eqb}
+use Rattle.ids.specs.Id.{ref}
+use Rattle.diagram.specs.Pieces.{count}
+use Rattle.diagram.specs.Table.{variables, firstBoolean, isRange, Table, at}
+use Rattle.diagram.specs.Cofactor.{edgesOf}
+use Rattle.diagram.specs.Sound.{Known, Child}
+use Rattle.diagram.proofs.Facts.{facts, is-node, var-most}
+use Rattle.diagram.proofs.Cofactors.{edge-other, count-own}
+use Rattle.algebra.specs.Conjunction.{opening, conj-node, conj}
+use Rattle.algebra.proofs.Conjoining.{opening-none}
+use Rattle.table.specs.Layout.{start}
+use Rattle.table.proofs.Laws.{split}
+use Rattle.merging.proofs.Conjoined as joined
+use Rattle.making.specs.declared.nodes.Head.{Head}
+use Rattle.making.specs.Outcome.{tableOf}
+use Rattle.views.specs.declared.View.{View}
+use Rattle.views.specs.Seeing.{Readable, Asked, Inside, Views, seen}
+use Rattle.views.proofs.Sights.{readable, known-held, views-rising, views-kids, count-bool, seen-count}
+use Rattle.conjunction.specs.Recalling.{Entry}
+use Rattle.conjunction.specs.Joining.{Ready, Sides, both}
+use Rattle.conjunction.proofs.Composing.{sound-of}
+
+module _ {h : Head} {nodes children : List ℕ} {cuts : List ℤ} {index memo : List ℕ} (r : Ready h nodes children cuts index memo) where
+  abbrev t : Table
+  t = tableOf h nodes children cuts
+
+  pub can-read : Readable nodes children cuts (h .used)
+  can-read = readable nodes children cuts index (h .used) (r .lent .allowed) (r .lent .sound)
+
+  module _ {n x y : ℕ} (ax : Asked t (h .used) n x) (ay : Asked t (h .used) n y) where
+    abbrev u : ℕ
+    u = (at t (ref x)) .var
+
+    abbrev w : ℕ
+    w = (at t (ref y)) .var
+
+    left-known : Known t x
+    left-known = known-held nodes children cuts (h .used) x (ax .known)
+
+    right-known : Known t y
+    right-known = known-held nodes children cuts (h .used) y (ay .known)
+
+    -- a call is left
+    pub call-left : 1 ≤ n
+    call-left = omega (arith, var-most t (sound-of (r .lent)) (ref x) left-known, ax .ahead)
+
+    one-less : n ≡ suc (n - 1)
+    one-less = omega (arith, call-left)
+
+    enough : variables < min u w + n
+    enough = omega (arith, ax .ahead, ay .ahead)
+
+    left-child : Child t (min u w) x
+    left-child = (left-known, omega arith)
+
+    right-child : Child t (min u w) y
+    right-child = (right-known, omega arith)
+
+    -- What the opening tests settle, and what the memo recalls.
+    pub opened-is : {z : ℕ} → opening x y ≡ some z → conj n t x y ≡ (t, z)
+    opened-is {z} e = ap (λ (m : ℕ). conj m t x y) one-less ∙ joined.conj-opened (n - 1) t x y z e
+
+    pub recalled-is : {z : ℕ} → Entry t x y z → conj n t x y ≡ (t, z)
+    recalled-is {z} e = joined.recalled n t (sound-of (r .lent)) (min u w) x y left-child right-child enough z (e .known) (e .means)
+
+    -- What is remembered is true.
+    pub entry-of : {out : Table × ℕ} {t′ : Table} {z : ℕ} → out ≡ conj n t x y → t′ ≡ out .0 → z ≡ out .1 → Entry t′ x y z
+    entry-of {out} {t′} {z} e p q =
+        let m = joined.remembered n t (sound-of (r .lent)) (min u w) x y left-child right-child enough in
+        subst (λ (c : ℕ). Entry t′ x y c) (sym (q ∙ ap (λ (o : Table × ℕ). o .1) e)) (subst (λ (s : Table). Entry s x y ((conj n t x y) .1)) (sym (p ∙ ap (λ (o : Table × ℕ). o .0) e)) (record { left-known = m .0; right-known = m .1; known = m .2; means = m .3 }))
+
+    module _ (none : opening x y ≡ none) where
+      pub left-node : 2 ≤ x
+      left-node = opening-none x y none .0
+
+      pub right-node : 2 ≤ y
+      right-node = opening-none x y none .1
+
+      module _ {v : ℕ} {a b : View} (ev : v ≡ min u w) (hv : v < variables) (va : Views nodes children cuts (h .used) v x a) (vb : Views nodes children cuts (h .used) v y b) where
+        lx : Child t v x
+        lx = (left-known, omega (arith, ev))
+
+        ly : Child t v y
+        ly = (right-known, omega (arith, ev))
+
+        -- A side that tests the variable has two edges or more, and one that does not has one.
+        many : (id : ℕ) (c : View) → Known t id → Views nodes children cuts (h .used) v id c → (at t (ref id)) .var ≡ v → 2 ≤ c .count
+        many id c k vc e = omega (arith, facts t (sound-of (r .lent)) (ref id) (is-node t (ref id) (omega (arith, e))) k .many, count-own t v id e, ap count (vc .edges), seen-count children cuts v c (vc .inside .some))
+
+        one : (id : ℕ) (c : View) → Views nodes children cuts (h .used) v id c → ((at t (ref id)) .var ≡ v → ⊥) → c .count ≡ 1
+        one id c vc e = sym (seen-count children cuts v c (vc .inside .some)) ∙ (ap count (vc .edges) ∙ ap count (edge-other t v id e))
+
+        tested : 2 < a .count + b .count
+        tested = ⊎-elim (λ e. omega (arith, many x a left-known va e, vb .inside .some)) (λ e. omega (arith, many y b right-known vb e, va .inside .some)) (which (ℕ-discrete u v))
+          where
+            which : Dec (u ≡ v) → (u ≡ v) ⊎ (w ≡ v)
+            which (yes e) = inl e
+            which (no e) = inr (⊎-elim (λ l. absurd (e (omega (arith, ev)))) (λ l. omega (arith, ev)) (split u (suc w)))
+
+        within : {c : View} → Inside (start nodes (h .used)) c → Inside (h .edges) c
+        within {c} i = record { some = i .some; most = i .most; within = λ l. omega (arith, i .within l, r .lent .edges) }
+
+        pub sides : Sides t (h .edges) children cuts v (n - 1) a b
+        sides = record {
+          known = hv;
+          enough = omega (arith, enough, ev, call-left);
+          tested = tested;
+          left = within (va .inside);
+          right = within (vb .inside);
+          left-rises = views-rising nodes children cuts (h .used) v x a can-read hv lx va;
+          right-rises = views-rising nodes children cuts (h .used) v y b can-read hv ly vb;
+          left-kids = views-kids nodes children cuts (h .used) v x a can-read hv lx va;
+          right-kids = views-kids nodes children cuts (h .used) v y b can-read hv ly vb;
+        }
+
+        -- Both test a boolean variable exactly when they have as many edges.
+        same-count : firstBoolean ≤ v → eqb (a .count) (b .count) ≡ eqb u w
+        same-count g = go (ℕ-discrete u v) (ℕ-discrete w v)
+          where
+            ca : a .count ≤ 2
+            ca = count-bool nodes children cuts (h .used) v x a can-read hv lx va g
+
+            cb : b .count ≤ 2
+            cb = count-bool nodes children cuts (h .used) v y b can-read hv ly vb g
+
+            go : Dec (u ≡ v) → Dec (w ≡ v) → eqb (a .count) (b .count) ≡ eqb u w
+            go (yes p) (yes q) = eq-eqb (a .count) (b .count) (omega (arith, many x a left-known va p, many y b right-known vb q, ca, cb)) ∙ sym (eq-eqb u w (p ∙ sym q))
+            go (yes p) (no q) = ne-eqb (a .count) (b .count) (λ e. omega (arith, many x a left-known va p, one y b vb q)) ∙ sym (ne-eqb u w (λ e. q (sym e ∙ p)))
+            go (no p) (yes q) = ne-eqb (a .count) (b .count) (λ e. omega (arith, many y b right-known vb q, one x a va p)) ∙ sym (ne-eqb u w (λ e. p (e ∙ q)))
+            go (no p) (no q) = absurd (⊎-elim (λ l. p (omega (arith, ev))) (λ l. q (omega (arith, ev))) (split u w))
+
+        order : (not (isRange v) && not (eqb (a .count) (b .count))) ≡ (not (isRange v) && not (eqb u w))
+        order = ⊎-elim (λ l. rw (lt-ltb v firstBoolean l)) (λ l. ap (λ (e : Bool). not (isRange v) && not e) (same-count l)) (split v firstBoolean)
+
+        -- The merge of both sides, in its order, is the conjunction.
+        pub both-is : both (not (isRange v) && not (eqb (a .count) (b .count))) (n - 1) t v (seen children cuts v a 0) (seen children cuts v b 0) ≡ conj n t x y
+        unfolding both conj-node
+        both-is =
+            ap (λ (back : Bool). both back (n - 1) t v (seen children cuts v a 0) (seen children cuts v b 0)) order
+            ∙ (ap₂ (both (not (isRange v) && not (eqb u w)) (n - 1) t v) (va .edges) (vb .edges)
+            ∙ (ap (λ (i : ℕ). both (not (isRange i) && not (eqb u w)) (n - 1) t i (edgesOf t i x) (edgesOf t i y)) ev
+            ∙ (sym (joined.conj-walked (n - 1) t x y none) ∙ ap (λ (m : ℕ). conj m t x y) (sym one-less))))

@@ -1,0 +1,80 @@
+// Conjunction and disjunction of two ids, the checks 1 to 5 being done. `and` and `or` of the source.
+ghost use mathlib.Core.Path.{_≡_};
+ghost use Prim.Native.Nat.{_*_};
+ghost use lib.ListN.{length};
+ghost use Rattle.ids.specs.Index.{KnownTo};
+ghost use Rattle.algebra.specs.Conjunction.{and as conjunction, or as disjunction};
+ghost use Rattle.table.specs.Layout.{room};
+ghost use Rattle.making.specs.Outcome.{Lent, tableOf};
+ghost use Rattle.conjunction.specs.Joining.{Joins};
+use super::pairs::conjoin;
+use ids::NodeId;
+use making::nodes::Head;
+use making::nodes::Made;
+use making::undo::undo;
+use table::fresh::zero_words;
+use table::limits::VARIABLES;
+
+// "The memo is scratch: zeroed at entry", and zero at the end. Where there is no room, the nodes that were made on the way are taken back:
+// "leaving nodes behind after "no room"" was a fault.
+pub fn and(
+    nodes: &mut [u32],
+    children: &mut [u32],
+    cuts: &mut [i64],
+    index: &mut [u32],
+    memo: &mut [u32],
+    head: Head,
+    x: NodeId,
+    y: NodeId,
+) -> Made
+    requires { ⌜ (Lent head (now nodes) (now children) (now cuts) (now index)) × (length (now memo) ≡ room (now nodes) * 3) × (KnownTo (head .used) (x .0)) × (KnownTo (head .used) (y .0)) ⌝ }
+    ensures { λ r. ⌜ Joins head (conjunction (tableOf head (now (nodes .entry)) (now (children .entry)) (now (cuts .entry))) (x .0) (y .0)) r (now (nodes .entry)) (now (children .entry)) (now (cuts .entry)) (now (index .entry)) (now (memo .entry)) (now (nodes .exit)) (now (children .exit)) (now (cuts .exit)) (now (index .exit)) (now (memo .exit)) ⌝ }
+{
+    zero_words(memo);
+    let m = conjoin(
+        nodes,
+        children,
+        cuts,
+        index,
+        memo,
+        head,
+        x,
+        y,
+        VARIABLES + 1,
+    );
+    zero_words(memo);
+    if m.ok {
+        return m;
+    }
+    let now = m.head;
+    let back = undo(nodes, children, cuts, index, now, head.used);
+    Made {
+        ok: false,
+        id: NodeId::FALSE,
+        head: back,
+    }
+}
+
+// "`or` by negation."
+pub fn or(
+    nodes: &mut [u32],
+    children: &mut [u32],
+    cuts: &mut [i64],
+    index: &mut [u32],
+    memo: &mut [u32],
+    head: Head,
+    x: NodeId,
+    y: NodeId,
+) -> Made
+    requires { ⌜ (Lent head (now nodes) (now children) (now cuts) (now index)) × (length (now memo) ≡ room (now nodes) * 3) × (KnownTo (head .used) (x .0)) × (KnownTo (head .used) (y .0)) ⌝ }
+    ensures { λ r. ⌜ Joins head (disjunction (tableOf head (now (nodes .entry)) (now (children .entry)) (now (cuts .entry))) (x .0) (y .0)) r (now (nodes .entry)) (now (children .entry)) (now (cuts .entry)) (now (index .entry)) (now (memo .entry)) (now (nodes .exit)) (now (children .exit)) (now (cuts .exit)) (now (index .exit)) (now (memo .exit)) ⌝ }
+{
+    let m = and(nodes, children, cuts, index, memo, head, x.not(), y.not());
+    let id = m.id;
+    let now = m.head;
+    Made {
+        ok: m.ok,
+        id: id.not(),
+        head: now,
+    }
+}

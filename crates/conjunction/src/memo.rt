@@ -1,0 +1,52 @@
+// The lent memo: one entry a slot, overwritten freely. It stands in for the source's cache.
+ghost use mathlib.Core.Path.{_≡_};
+ghost use mathlib.Core.Bool.{true};
+ghost use Prim.Native.Nat.{_*_, _≤_, _<_};
+ghost use lib.ListN.{length};
+ghost use Rattle.diagram.specs.Table.{Table};
+ghost use Rattle.table.specs.Layout.{mostNodes};
+ghost use Rattle.conjunction.specs.Recalling.{Entry, Memo};
+use super::opening::Settled;
+use ids::NodeId;
+use table::index::mixed;
+use table::index::scaled;
+use table::words::wide;
+
+// The slot of a pair.
+fn slot_of(x: NodeId, y: NodeId, rooms: usize) -> usize
+    requires { ⌜ (1 ≤ rooms) × (rooms ≤ mostNodes) ⌝ }
+    ensures { λ r. ⌜ r < rooms ⌝ }
+{
+    scaled(mixed(wide(x.0), wide(y.0), 0), rooms)
+}
+
+// The memo's answer for a pair, if it has one.
+pub fn recall(memo: &[u32], rooms: usize, x: NodeId, y: NodeId) -> Settled
+    requires { ⌜ (1 ≤ rooms) × (rooms ≤ mostNodes) × (length (now memo) ≡ rooms * 3) × (1 ≤ x .0) ⌝ }
+    ensures { λ r. ⌜ (r .done ≡ true → (t : Table) → Memo (now (memo .entry)) t → Entry t (x .0) (y .0) (r .id .0)) ⌝ }
+{
+    let at = slot_of(x, y, rooms) * 3;
+    if memo[at] == x.0 {
+        if memo[at + 1] == y.0 {
+            return Settled {
+                done: true,
+                id: NodeId(memo[at + 2]),
+            };
+        }
+    }
+    Settled {
+        done: false,
+        id: NodeId::FALSE,
+    }
+}
+
+// Writes the answer for a pair over whatever stood in its slot.
+pub fn remember(memo: &mut [u32], rooms: usize, x: NodeId, y: NodeId, id: NodeId)
+    requires { ⌜ (1 ≤ rooms) × (rooms ≤ mostNodes) × (length (now memo) ≡ rooms * 3) ⌝ }
+    ensures { λ _. ⌜ (length (now (memo .exit)) ≡ length (now (memo .entry))) × ((t : Table) → Memo (now (memo .entry)) t → Entry t (x .0) (y .0) (id .0) → Memo (now (memo .exit)) t) ⌝ }
+{
+    let at = slot_of(x, y, rooms) * 3;
+    memo[at] = x.0;
+    memo[at + 1] = y.0;
+    memo[at + 2] = id.0;
+}
