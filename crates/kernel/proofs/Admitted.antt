@@ -1,0 +1,79 @@
+-- What the proofs of the conditions' calls hand their facts to: what is found before any work, and each row. Assumes nothing.
+use mathlib.Core.Path.{_≡_, refl, _∙_, ap}
+use mathlib.Core.Bool.{Bool, true, false, cond}
+use mathlib.Core.List.{List, []}
+use Prim.Native.Nat.{ℕ}
+use native.Mathlib.Omega.{arith}
+use lib.IntN.{ℤ}
+use mir.Syntax.{w32}
+use mir.Val.{toZ, ofZ, SFits}
+use mir.ValLaws.{toZ-ofZ}
+use Rattle.ids.specs.Id.{FALSE}
+use Rattle.ranges.specs.declared.bounds.Bound.{Bound}
+use Rattle.ranges.specs.declared.bounds.Comparison.{Comparison}
+use Rattle.diagram.specs.Table.{Table}
+use Rattle.algebra.specs.Conditions.{from-range, comparison, from-bool}
+use Rattle.table.specs.Deciding.{Decides}
+use Rattle.table.specs.Told.{done, Checks, checked-1, checked-2, checked-0}
+use Rattle.table.proofs.Laws.{proved, refuted}
+use Rattle.making.specs.declared.nodes.Head.{Head}
+use Rattle.making.specs.declared.nodes.Made.{Made}
+use Rattle.making.specs.Outcome.{Lent, Outcome, Untouched, tableOf}
+use Rattle.kernel.specs.Makes.{wrongVariable, noRoom, made-4, Conditions}
+use Rattle.kernel.specs.Admitting.{Admits, not-lent, not-kind, admitted}
+use Rattle.kernel.proofs.Handing.{leaves-it, check-refuses, no-room-it, done-it}
+
+module _ {nodes children : List ℕ} {cuts : List ℤ} {index : List ℕ} where
+  -- the check of a table gives one to work on
+  pub check-lends : {k u e : ℕ} → Checks nodes children cuts index k u e → k ≡ done → Lent (record { used = u; edges = e }) nodes children cuts index
+  check-lends (checked-1 f) q = absurd (omega arith)
+  check-lends (checked-2 a f) q = absurd (omega arith)
+  check-lends (checked-0 a u s) q = record { allowed = a; sound = s; edges = refl }
+
+  pub admits-not : {kind : Bool} {k u e : ℕ} → Checks nodes children cuts index k u e → k ≡ done → kind ≡ false → Admits nodes children cuts index kind wrongVariable (record { used = u; edges = e })
+  admits-not c q e = rw e (not-kind _ (check-lends c q))
+
+  pub admits-it : {kind : Bool} {k u e : ℕ} → Checks nodes children cuts index k u e → k ≡ done → kind ≡ true → Admits nodes children cuts index kind done (record { used = u; edges = e })
+  admits-it c q e = rw e (admitted _ (check-lends c q))
+
+  -- what a condition may work on
+  pub admitted-lent : {kind : Type 0} {b : Bool} {k : ℕ} {h : Head} → Decides kind b → Admits nodes children cuts index b k h → k ≡ done → Lent h nodes children cuts index × kind
+  admitted-lent d (not-lent b h c n) q = absurd (n q)
+  admitted-lent d (not-kind h l) q = absurd (omega arith)
+  admitted-lent d (admitted h l) q = (l, proved d refl)
+
+module _ (kind : Type 0) (want : Table → Table × ℕ) (nodes children : List ℕ) (cuts : List ℤ) (index : List ℕ) where
+  -- rows 1, 2 and 4
+  pub condition-refused : {b : Bool} {k n id : ℕ} {h : Head} → Decides kind b → Admits nodes children cuts index b k h → (k ≡ done → ⊥) → (n ≡ k) × (id ≡ FALSE)
+      → Conditions nodes children cuts index kind want n id nodes children cuts index
+  condition-refused d (not-lent b h c f) x q = rw (q .0, q .1) (check-refuses _ _ kind want nodes children cuts index [] (λ a. a) (λ a. a) c f)
+  condition-refused d (not-kind h l) x q = rw (q .0, q .1) (made-4 (l .allowed) (h .used) (l .sound) tt (refuted d refl))
+  condition-refused d (admitted h l) x q = absurd (x refl)
+
+  -- rows 6 and 0, from what was made
+  module _ {nodes′ children′ : List ℕ} {cuts′ : List ℤ} {index′ : List ℕ} where
+    pub condition-answered : {h : Head} {made : Table × ℕ} {r : Made} {n id : ℕ} → Lent h nodes children cuts index × kind
+        → Outcome h made r nodes children cuts nodes′ children′ cuts′ index′ × (r .ok ≡ false → Untouched nodes children cuts index nodes′ children′ cuts′ index′)
+        → made ≡ want (tableOf h nodes children cuts) → (n ≡ cond (r .ok) done noRoom) × (id ≡ cond (r .ok) (r .id .0) FALSE)
+        → Conditions nodes children cuts index kind want n id nodes′ children′ cuts′ index′
+    condition-answered {h} {made} {r} {n} {id} (l, p) (o, u) e q = go (r .ok) refl q
+      where
+        go : (b : Bool) → r .ok ≡ b → (n ≡ cond b done noRoom) × (id ≡ cond b (r .id .0) FALSE) → Conditions nodes children cuts index kind want n id nodes′ children′ cuts′ index′
+        go true y q =
+            let t = o .table y ∙ ap (λ (x : Table × ℕ). x .0) e in
+            let i = q .1 ∙ (o .id y ∙ ap (λ (x : Table × ℕ). x .1) e) in
+            let x = leaves-it nodes children cuts index nodes′ children′ cuts′ index′ (r .head .used) (l .allowed) (o .lent .allowed) (o .stays .long) (o .stays .wide) (o .lent .sound) t in
+            rw (q .0) (done-it _ _ kind want nodes children cuts index [] (l .allowed) (l .sound) tt p x i refl)
+        go false y q =
+            let z = u y in
+            rw (q .0, q .1) (no-room-it _ _ kind want nodes children cuts index [] (l .allowed) (l .sound) tt p (λ f. o .full y (rw e f)) (z .nodes-same) (z .children-same) (z .cuts-same) (z .index-same) refl)
+
+-- The code hands a variable on as a wide number, and a key as 32 bits.
+pub same-range : (t : Table) {w v : ℕ} (lower upper : Bound) → w ≡ v → from-range t w lower upper ≡ from-range t v lower upper
+same-range t lower upper e = ap (λ (n : ℕ). from-range t n lower upper) e
+
+pub same-bool : (t : Table) {w v : ℕ} → w ≡ v → from-bool t w ≡ from-bool t v
+same-bool t e = ap (from-bool t) e
+
+pub same-comparison : (t : Table) {w v : ℕ} (op : Comparison) (key : ℤ) → w ≡ v → SFits w32 key → comparison t w op (toZ w32 (ofZ w32 key)) ≡ comparison t v op key
+same-comparison t op key e f = rw (e, toZ-ofZ w32 key f)

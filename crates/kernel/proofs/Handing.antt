@@ -1,0 +1,54 @@
+-- What the proofs of the public calls hand their facts to: each row of an outcome from what the code has found. Assumes nothing.
+use mathlib.Core.Path.{_≡_, refl}
+use mathlib.Core.Bool.{Bool, false}
+use mathlib.Core.List.{List}
+use Prim.Native.Nat.{ℕ}
+use lib.ListN.{length, replicate}
+use lib.IntN.{ℤ}
+use Rattle.ids.specs.Id.{FALSE}
+use Rattle.diagram.specs.Table.{Table}
+use Rattle.diagram.specs.Room.{Fits}
+use Rattle.algebra.specs.Disjointness.{is-disjoint}
+use Rattle.table.specs.Layout.{room}
+use Rattle.table.specs.Lent.{SoundLent}
+use Rattle.table.specs.Held.{held}
+use Rattle.table.specs.Told.{done, Allowed, Checks, checked-1, checked-2, checked-0}
+use Rattle.kernel.specs.Makes.{noRoom, Leaves, Makes, made-1, made-2, made-6, made-0, BothKnown, Disjoints, disjoint-1, disjoint-2, disjoint-0}
+use Rattle.making.proofs.Taken.{cuts-as-long, index-as-long}
+
+-- what a call leaves, from a table that is sound again in the same room
+pub leaves-it : {t : Table} (nodes children : List ℕ) (cuts : List ℤ) (index nodes′ children′ : List ℕ) (cuts′ : List ℤ) (index′ : List ℕ) (u : ℕ) → Allowed nodes children cuts index → Allowed nodes′ children′ cuts′ index′
+    → length nodes′ ≡ length nodes → length children′ ≡ length children → SoundLent nodes′ children′ cuts′ index′ u → held nodes′ children′ cuts′ u ≡ t
+    → Leaves t nodes children cuts index nodes′ children′ cuts′ index′
+leaves-it nodes children cuts index nodes′ children′ cuts′ index′ u a b l w s e = record { long = l; wide = w; deep = cuts-as-long a b w; indexed = index-as-long a b l; used = u; sound = s; holds = e }
+
+module _ (lent : Type 0) (known : ℕ → Type 0) (kind : Type 0) (want : Table → Table × ℕ) (nodes children : List ℕ) (cuts : List ℤ) (index memo : List ℕ) where
+  -- rows 1 and 2, from the check of the table; the other lengths that a call is lent are right
+  pub check-refuses : {k u e : ℕ} → (Allowed nodes children cuts index → lent) → (lent → Allowed nodes children cuts index) → Checks nodes children cuts index k u e → (k ≡ done → ⊥)
+      → Makes lent known kind want nodes children cuts index memo k FALSE nodes children cuts index memo
+  check-refuses to from (checked-1 f) n = made-1 (λ l. f (from l))
+  check-refuses to from (checked-2 a f) n = made-2 (to a) f
+  check-refuses to from (checked-0 a u s) n = absurd (n refl)
+
+  module _ {u : ℕ} (l : lent) (s : SoundLent nodes children cuts index u) (a : known u) (v : kind) where
+    -- row 6, from words that are as they were
+    pub no-room-it : {nodes′ children′ index′ memo′ : List ℕ} {cuts′ : List ℤ} → (Fits (room nodes) (length children) ((want (held nodes children cuts u)) .0) → ⊥)
+        → nodes′ ≡ nodes → children′ ≡ children → cuts′ ≡ cuts → index′ ≡ index → memo′ ≡ replicate (length memo) 0
+        → Makes lent known kind want nodes children cuts index memo noRoom FALSE nodes′ children′ cuts′ index′ memo′
+    no-room-it f p q r t z = rw (p, q, r, t, z) (made-6 l u s a v f)
+
+    -- row 0, from the operation's own table and id
+    pub done-it : {id : ℕ} {nodes′ children′ index′ memo′ : List ℕ} {cuts′ : List ℤ} → Leaves ((want (held nodes children cuts u)) .0) nodes children cuts index nodes′ children′ cuts′ index′
+        → id ≡ (want (held nodes children cuts u)) .1 → memo′ ≡ replicate (length memo) 0 → Makes lent known kind want nodes children cuts index memo done id nodes′ children′ cuts′ index′ memo′
+    done-it h e z = rw (e, z) (made-0 l u s a v _ _ _ _ h)
+
+-- the same of disjointness
+module _ (nodes children : List ℕ) (cuts : List ℤ) (index : List ℕ) (x y : ℕ) where
+  pub check-says-no : {k u e : ℕ} → Checks nodes children cuts index k u e → (k ≡ done → ⊥) → Disjoints nodes children cuts index x y k false
+  check-says-no (checked-1 f) n = disjoint-1 f
+  check-says-no (checked-2 a f) n = disjoint-2 a f
+  check-says-no (checked-0 a u s) n = absurd (n refl)
+
+  pub disjoint-it : {u : ℕ} {b : Bool} → Allowed nodes children cuts index → SoundLent nodes children cuts index u → BothKnown x y u → b ≡ is-disjoint (held nodes children cuts u) x y
+      → Disjoints nodes children cuts index x y done b
+  disjoint-it {u} a s k e = rw e (disjoint-0 a u s k)

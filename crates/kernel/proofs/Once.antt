@@ -1,0 +1,105 @@
+-- Any two outcomes that a contract permits are the same: the number, the id or the answer, and every word. Assumes nothing.
+use mathlib.Core.Path.{_≡_, refl, sym, _∙_, ap, subst}
+use mathlib.Core.Bool.{Bool}
+use mathlib.Core.List.{List}
+use Prim.Native.Nat.{ℕ}
+use lib.ListN.{length}
+use lib.IntN.{ℤ}
+use Rattle.diagram.specs.Table.{Table}
+use Rattle.diagram.specs.Room.{Fits}
+use Rattle.algebra.specs.Disjointness.{is-disjoint}
+use Rattle.table.specs.Layout.{room}
+use Rattle.table.specs.Lent.{SoundLent}
+use Rattle.table.specs.Held.{held}
+use Rattle.table.proofs.Once.{sound-once}
+use Rattle.table.proofs.Promises.{fits-its-room, same-table-same-words}
+use Rattle.kernel.specs.Makes.{Leaves, Makes, made-1, made-2, made-3, made-4, made-6, made-0, BothKnown, Disjoints, disjoint-1, disjoint-2, disjoint-3, disjoint-0}
+
+-- what a call leaves in its room fits it
+pub leaves-fits : {t : Table} {nodes children : List ℕ} {cuts : List ℤ} {index nodes′ children′ : List ℕ} {cuts′ : List ℤ} {index′ : List ℕ}
+    → Leaves t nodes children cuts index nodes′ children′ cuts′ index′ → Fits (room nodes) (length children) t
+leaves-fits {nodes′ = nodes′} {children′} {cuts′} {index′} l =
+    rw (sym (l .long), sym (l .wide), sym (l .holds)) (fits-its-room nodes′ children′ cuts′ index′ (l .used) (l .sound))
+
+module _ (lent : Type 0) (known : ℕ → Type 0) (kind : Type 0) (want : Table → Table × ℕ) (nodes children : List ℕ) (cuts : List ℤ) (index memo : List ℕ) where
+  abbrev Out : ℕ → ℕ → List ℕ → List ℕ → List ℤ → List ℕ → List ℕ → Type 0
+  Out k id n c t i m = Makes lent known kind want nodes children cuts index memo k id n c t i m
+
+  one : {u u′ : ℕ} → SoundLent nodes children cuts index u → SoundLent nodes children cuts index u′ → u ≡ u′
+  one {u} {u′} s s′ = sound-once nodes children cuts index u u′ s s′
+
+  -- the operation's own result, from the table of u records
+  abbrev wanted : ℕ → Table × ℕ
+  wanted u = want (held nodes children cuts u)
+
+  abbrev Room : ℕ → Type 0
+  Room u = Fits (room nodes) (length children) ((wanted u) .0)
+
+  -- both are done
+  same-done : {u u′ : ℕ} {n n′ c c′ i i′ : List ℕ} {t t′ : List ℤ} → u ≡ u′ → Leaves ((wanted u) .0) nodes children cuts index n c t i → Leaves ((wanted u′) .0) nodes children cuts index n′ c′ t′ i′
+      → (n ≡ n′) × (c ≡ c′) × (t ≡ t′) × (i ≡ i′)
+  same-done {n = n} {n′} {c} {c′} {i} {i′} {t} {t′} e h h′ =
+      let w = same-table-same-words n c t i n′ c′ t′ i′ (h .used) (h′ .used) (h .long ∙ sym (h′ .long)) (h .wide ∙ sym (h′ .wide)) (h .deep ∙ sym (h′ .deep)) (h .indexed ∙ sym (h′ .indexed))
+      (h .sound) (h′ .sound) (h .holds ∙ ap (λ (m : ℕ). (wanted m) .0) e ∙ sym (h′ .holds)) in
+      (w .each-node, w .each-kid, w .each-cut, w .each-word)
+
+  pub makes-once : {k k′ id id′ : ℕ} {n n′ c c′ i i′ m m′ : List ℕ} {t t′ : List ℤ} → Out k id n c t i m → Out k′ id′ n′ c′ t′ i′ m′
+      → (k ≡ k′) × (id ≡ id′) × (n ≡ n′) × (c ≡ c′) × (t ≡ t′) × (i ≡ i′) × (m ≡ m′)
+  makes-once (made-1 f) (made-1 f′) = (refl, refl, refl, refl, refl, refl, refl)
+  makes-once (made-1 f) (made-2 l′ f′) = absurd (f l′)
+  makes-once (made-1 f) (made-3 l′ u′ s′ f′) = absurd (f l′)
+  makes-once (made-1 f) (made-4 l′ u′ s′ k′ f′) = absurd (f l′)
+  makes-once (made-1 f) (made-6 l′ u′ s′ k′ v′ f′) = absurd (f l′)
+  makes-once (made-1 f) (made-0 l′ u′ s′ k′ v′ _ _ _ _ h′) = absurd (f l′)
+  makes-once (made-2 l f) (made-1 f′) = absurd (f′ l)
+  makes-once (made-2 l f) (made-2 l′ f′) = (refl, refl, refl, refl, refl, refl, refl)
+  makes-once (made-2 l f) (made-3 l′ u′ s′ f′) = absurd (f u′ s′)
+  makes-once (made-2 l f) (made-4 l′ u′ s′ k′ f′) = absurd (f u′ s′)
+  makes-once (made-2 l f) (made-6 l′ u′ s′ k′ v′ f′) = absurd (f u′ s′)
+  makes-once (made-2 l f) (made-0 l′ u′ s′ k′ v′ _ _ _ _ h′) = absurd (f u′ s′)
+  makes-once (made-3 l u s f) (made-1 f′) = absurd (f′ l)
+  makes-once (made-3 l u s f) (made-2 l′ f′) = absurd (f′ u s)
+  makes-once (made-3 l u s f) (made-3 l′ u′ s′ f′) = (refl, refl, refl, refl, refl, refl, refl)
+  makes-once (made-3 l u s f) (made-4 l′ u′ s′ k′ f′) = absurd (f (subst known (one s′ s) k′))
+  makes-once (made-3 l u s f) (made-6 l′ u′ s′ k′ v′ f′) = absurd (f (subst known (one s′ s) k′))
+  makes-once (made-3 l u s f) (made-0 l′ u′ s′ k′ v′ _ _ _ _ h′) = absurd (f (subst known (one s′ s) k′))
+  makes-once (made-4 l u s k f) (made-1 f′) = absurd (f′ l)
+  makes-once (made-4 l u s k f) (made-2 l′ f′) = absurd (f′ u s)
+  makes-once (made-4 l u s k f) (made-3 l′ u′ s′ f′) = absurd (f′ (subst known (one s s′) k))
+  makes-once (made-4 l u s k f) (made-4 l′ u′ s′ k′ f′) = (refl, refl, refl, refl, refl, refl, refl)
+  makes-once (made-4 l u s k f) (made-6 l′ u′ s′ k′ v′ f′) = absurd (f v′)
+  makes-once (made-4 l u s k f) (made-0 l′ u′ s′ k′ v′ _ _ _ _ h′) = absurd (f v′)
+  makes-once (made-6 l u s k v f) (made-1 f′) = absurd (f′ l)
+  makes-once (made-6 l u s k v f) (made-2 l′ f′) = absurd (f′ u s)
+  makes-once (made-6 l u s k v f) (made-3 l′ u′ s′ f′) = absurd (f′ (subst known (one s s′) k))
+  makes-once (made-6 l u s k v f) (made-4 l′ u′ s′ k′ f′) = absurd (f′ v)
+  makes-once (made-6 l u s k v f) (made-6 l′ u′ s′ k′ v′ f′) = (refl, refl, refl, refl, refl, refl, refl)
+  makes-once (made-6 l u s k v f) (made-0 l′ u′ s′ k′ v′ _ _ _ _ h′) = absurd (f (subst Room (one s′ s) (leaves-fits h′)))
+  makes-once (made-0 l u s k v _ _ _ _ h) (made-1 f′) = absurd (f′ l)
+  makes-once (made-0 l u s k v _ _ _ _ h) (made-2 l′ f′) = absurd (f′ u s)
+  makes-once (made-0 l u s k v _ _ _ _ h) (made-3 l′ u′ s′ f′) = absurd (f′ (subst known (one s s′) k))
+  makes-once (made-0 l u s k v _ _ _ _ h) (made-4 l′ u′ s′ k′ f′) = absurd (f′ v)
+  makes-once (made-0 l u s k v _ _ _ _ h) (made-6 l′ u′ s′ k′ v′ f′) = absurd (f′ (subst Room (one s s′) (leaves-fits h)))
+  makes-once (made-0 l u s k v _ _ _ _ h) (made-0 l′ u′ s′ k′ v′ _ _ _ _ h′) = let w = same-done (one s s′) h h′ in (refl, ap (λ (m : ℕ). (wanted m) .1) (one s s′), w .0, w .1, w .2, w .3, refl)
+
+module _ (nodes children : List ℕ) (cuts : List ℤ) (index : List ℕ) (x y : ℕ) where
+  abbrev Told : ℕ → Bool → Type 0
+  Told k b = Disjoints nodes children cuts index x y k b
+
+  pub disjoints-once : {k k′ : ℕ} {b b′ : Bool} → Told k b → Told k′ b′ → (k ≡ k′) × (b ≡ b′)
+  disjoints-once (disjoint-1 f) (disjoint-1 f′) = (refl, refl)
+  disjoints-once (disjoint-1 f) (disjoint-2 l′ f′) = absurd (f l′)
+  disjoints-once (disjoint-1 f) (disjoint-3 l′ u′ s′ f′) = absurd (f l′)
+  disjoints-once (disjoint-1 f) (disjoint-0 l′ u′ s′ k′) = absurd (f l′)
+  disjoints-once (disjoint-2 l f) (disjoint-1 f′) = absurd (f′ l)
+  disjoints-once (disjoint-2 l f) (disjoint-2 l′ f′) = (refl, refl)
+  disjoints-once (disjoint-2 l f) (disjoint-3 l′ u′ s′ f′) = absurd (f u′ s′)
+  disjoints-once (disjoint-2 l f) (disjoint-0 l′ u′ s′ k′) = absurd (f u′ s′)
+  disjoints-once (disjoint-3 l u s f) (disjoint-1 f′) = absurd (f′ l)
+  disjoints-once (disjoint-3 l u s f) (disjoint-2 l′ f′) = absurd (f′ u s)
+  disjoints-once (disjoint-3 l u s f) (disjoint-3 l′ u′ s′ f′) = (refl, refl)
+  disjoints-once (disjoint-3 l u s f) (disjoint-0 l′ u′ s′ k′) = absurd (f (subst (BothKnown x y) (sound-once nodes children cuts index u′ u s′ s) k′))
+  disjoints-once (disjoint-0 l u s k) (disjoint-1 f′) = absurd (f′ l)
+  disjoints-once (disjoint-0 l u s k) (disjoint-2 l′ f′) = absurd (f′ u s)
+  disjoints-once (disjoint-0 l u s k) (disjoint-3 l′ u′ s′ f′) = absurd (f′ (subst (BothKnown x y) (sound-once nodes children cuts index u u′ s s′) k))
+  disjoints-once (disjoint-0 l u s k) (disjoint-0 l′ u′ s′ k′) = (refl, ap (λ (m : ℕ). is-disjoint (held nodes children cuts m) x y) (sound-once nodes children cuts index u u′ s s′))

@@ -1,0 +1,15 @@
+-- `admission::is_range` meets its contract. Assumes nothing.
+use Rattle.diagram.specs.Table.{firstBoolean}
+use Rattle.kernel.proofs.Deciding.{decides-below}
+use borrow.Author.Needs.{needs}
+use Rattle.kernel.proofs.admission.is_range.Statement.{statement}
+use Rattle.kernel.proofs.admission.is_range.Tie as tie
+
+wide-requires : tie.Need-wide-requires
+wide-requires c κs = search needs
+
+returns : tie.Need-returns
+returns c = decides-below firstBoolean ((c .wide .ensures .0))
+
+pub is-range-spec : {M : Type 1} → statement M
+is-range-spec = tie.close (tie.spec wide-requires returns)

@@ -1,0 +1,53 @@
+-- `disjointness_calls::is_disjoint` has the one outcome that its contract allows. Assumes nothing.
+use native.Mathlib.Omega.{arith}
+use borrow.Author.Tests.{not-true, not-false}
+use Rattle.table.proofs.Laws.{proved, refuted}
+use Rattle.table.proofs.Hearing.{check-passes}
+use Rattle.views.proofs.Sights.{readable, asked-all}
+use Rattle.kernel.specs.Makes.{disjoint-3}
+use Rattle.kernel.proofs.Handing.{check-says-no, disjoint-it}
+use borrow.Author.Needs.{needs}
+use Rattle.kernel.proofs.disjointness_calls.is_disjoint.Statement.{statement}
+use Rattle.kernel.proofs.disjointness_calls.is_disjoint.Tie as tie
+
+check-requires : tie.Need-check-requires
+check-requires c κs = search needs
+
+returns : tie.Need-returns
+returns c = check-says-no _ _ _ _ _ _ ((c .before .before .check .ensures)) ((c .if1 .taken))
+
+both-known-requires : tie.Need-both-known-requires
+both-known-requires c κs =
+    let p = check-passes _ _ _ _ ((c .before .before .check .ensures)) ((c .if1 .left)) in
+    omega (arith, p .1 .fits, p .0 .most-nodes)
+
+returns-2 : tie.Need-returns-2
+returns-2 c =
+    let p = check-passes _ _ _ _ ((c .before .before .before .before .check .ensures)) ((c .before .before .if1 .left)) in
+    disjoint-3 (p .0) _ (p .1) (refuted ((c .before .both-known .ensures)) (not-true _ ((c .if2 .taken))))
+
+add-is-disjoint : tie.Need-add-is-disjoint
+add-is-disjoint c = search needs
+
+is-disjoint-requires : tie.Need-is-disjoint-requires
+is-disjoint-requires c κs =
+    let p = check-passes _ _ _ _ ((c .before .before .before .before .check .ensures)) ((c .before .before .if1 .left)) in
+    let k = proved ((c .before .both-known .ensures)) (not-false _ ((c .if2 .left))) in
+    (readable _ _ _ _ _ (p .0) (p .1), asked-all (k .0), asked-all (k .1))
+
+returns-3 : tie.Need-returns-3
+returns-3 c =
+    let p = check-passes _ _ _ _ ((c .before .before .before .before .before .check .ensures)) ((c .before .before .before .if1 .left)) in
+    disjoint-it _ _ _ _ _ _ (p .0) (p .1) (proved ((c .before .before .both-known .ensures)) (not-false _ ((c .before .if2 .left)))) ((c .is-disjoint .ensures))
+
+pub is-disjoint-spec : {M : Type 1} → statement M
+is-disjoint-spec =
+    tie.close
+    (tie.spec
+    check-requires
+    returns
+    both-known-requires
+    returns-2
+    add-is-disjoint
+    is-disjoint-requires
+    returns-3)

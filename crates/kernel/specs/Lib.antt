@@ -1,0 +1,4 @@
+-- What each public call answers and leaves. Assumes nothing.
+pub mod Makes
+pub mod Meaning
+pub mod Admitting

@@ -1,0 +1,116 @@
+-- What each call that may add nodes answers and leaves, for every input, and what disjointness answers: a case for each row of document 01,
+-- "When the kernel is told no", by its number, in the order of the checks. Assumes nothing.
+use mathlib.Core.Path.{_≡_}
+use mathlib.Core.Bool.{Bool, false}
+use mathlib.Core.List.{List, []}
+use Prim.Native.Nat.{ℕ, _*_, _≤_, _<_}
+use lib.ListN.{length, replicate}
+use lib.IntN.{ℤ}
+use Rattle.ids.specs.Id.{FALSE}
+use Rattle.ids.specs.Index.{KnownTo}
+use Rattle.ranges.specs.declared.bounds.Bound.{Bound}
+use Rattle.ranges.specs.declared.bounds.Comparison.{Comparison}
+use Rattle.diagram.specs.Table.{firstBoolean, variables, Table}
+use Rattle.diagram.specs.Room.{Fits}
+use Rattle.algebra.specs.Conditions.{from-range, comparison, from-bool}
+use Rattle.algebra.specs.Conjunction.{and, or}
+use Rattle.algebra.specs.Disjointness.{is-disjoint}
+use Rattle.table.specs.Layout.{room}
+use Rattle.table.specs.Lent.{SoundLent}
+use Rattle.table.specs.Held.{held}
+use Rattle.table.specs.Told.{done, wrongRoom, notSound, unknownId, Allowed, Unsound}
+
+-- The numbers of the table in document 01 that only these calls give.
+abbrev pub wrongVariable : ℕ
+wrongVariable = 4
+
+abbrev pub noRoom : ℕ
+noRoom = 6
+
+-- "The table with only the answer's missing nodes added": in the room that was lent, sound, and holding this table.
+pub record Leaves (t : Table) (nodes children : List ℕ) (cuts : List ℤ) (index nodes′ children′ : List ℕ) (cuts′ : List ℤ) (index′ : List ℕ) : Type 0 where
+  pub long : length nodes′ ≡ length nodes
+  pub wide : length children′ ≡ length children
+  pub deep : length cuts′ ≡ length cuts
+  pub indexed : length index′ ≡ length index
+  pub used : ℕ
+  pub sound : SoundLent nodes′ children′ cuts′ index′ used
+  pub holds : held nodes′ children′ cuts′ used ≡ t
+
+-- A call that may add nodes: its number, its id, and every word after it. It is given
+--   lent   that the lengths are allowed,
+--   known  that the ids are known where this many nodes are used,
+--   kind   that the variable is one of the kind that the call asks,
+--   want   the table and the id that the operation makes from a table,
+-- and the words before it.
+module _ (lent : Type 0) (known : ℕ → Type 0) (kind : Type 0) (want : Table → Table × ℕ) (nodes children : List ℕ) (cuts : List ℤ) (index memo : List ℕ) where
+  pub data Makes : ℕ → ℕ → List ℕ → List ℕ → List ℤ → List ℕ → List ℕ → Type 0 where
+    -- "a room or length isn't allowed": "id 1, everything as found"
+    made-1 : (lent → ⊥) → Makes wrongRoom FALSE nodes children cuts index memo
+    -- "the table isn't sound"
+    made-2 : lent → Unsound nodes children cuts index → Makes notSound FALSE nodes children cuts index memo
+    -- "an id is no terminal and names no used node"
+    made-3 : lent → (u : ℕ) → SoundLent nodes children cuts index u → (known u → ⊥) → Makes unknownId FALSE nodes children cuts index memo
+    -- "a variable is 64 or more, or of the wrong kind where a kind is asked"
+    made-4 : lent → (u : ℕ) → SoundLent nodes children cuts index u → known u → (kind → ⊥) → Makes wrongVariable FALSE nodes children cuts index memo
+    -- what the operation makes does not fit the room: "id 1, table as found, memo all zero"
+    made-6 : lent → (u : ℕ) → SoundLent nodes children cuts index u → known u → kind
+        → (Fits (room nodes) (length children) ((want (held nodes children cuts u)) .0) → ⊥)
+        → Makes noRoom FALSE nodes children cuts index (replicate (length memo) 0)
+    -- "done": the operation's id, and a table that holds what it makes; "memo all zero if one was lent"
+    made-0 : lent → (u : ℕ) → SoundLent nodes children cuts index u → known u → kind
+        → (nodes′ children′ : List ℕ) (cuts′ : List ℤ) (index′ : List ℕ) → Leaves ((want (held nodes children cuts u)) .0) nodes children cuts index nodes′ children′ cuts′ index′
+        → Makes done ((want (held nodes children cuts u)) .1) nodes′ children′ cuts′ index′ (replicate (length memo) 0)
+
+-- What may come of a call: a number, an id and the words of a table, and of one that is lent a memo those too.
+abbrev pub Outcomes : Type 1
+Outcomes = ℕ → ℕ → List ℕ → List ℕ → List ℤ → List ℕ → Type 0
+
+abbrev pub MemoOutcomes : Type 1
+MemoOutcomes = ℕ → ℕ → List ℕ → List ℕ → List ℤ → List ℕ → List ℕ → Type 0
+
+-- Both of two ids are known, where u nodes are used.
+abbrev pub BothKnown : ℕ → ℕ → ℕ → Type 0
+BothKnown x y u = KnownTo u x × KnownTo u y
+
+module _ (nodes children : List ℕ) (cuts : List ℤ) (index : List ℕ) where
+  -- A condition is given no id and is lent no memo.
+  abbrev pub Conditions : Type 0 → (Table → Table × ℕ) → Outcomes
+  Conditions kind want number id nodes′ children′ cuts′ index′ =
+      Makes (Allowed nodes children cuts index) (λ u. Unit {0}) kind want nodes children cuts index [] number id nodes′ children′ cuts′ index′ []
+
+  -- "A range by two bounds". Of kinds, "a range condition .. ask[s] a range variable".
+  abbrev pub FromRange : ℕ → Bound → Bound → Outcomes
+  FromRange v lower upper = Conditions (v < firstBoolean) (λ t. from-range t v lower upper)
+
+  -- "Six comparisons with a key", which are range conditions too.
+  abbrev pub Compares : ℕ → Comparison → ℤ → Outcomes
+  Compares v op key = Conditions (v < firstBoolean) (λ t. comparison t v op key)
+
+  -- "A boolean condition asks a boolean one"; "64 or more" is no variable.
+  abbrev pub FromBool : ℕ → Outcomes
+  FromBool v = Conditions ((firstBoolean ≤ v) × (v < variables)) (λ t. from-bool t v)
+
+  -- Conjunction and disjunction are given two ids and no variable, and are lent a memo: three words for each node record.
+  module _ (memo : List ℕ) where
+    abbrev pub Lending : Type 0
+    Lending = Allowed nodes children cuts index × (length memo ≡ room nodes * 3)
+
+    abbrev pub Joins : (Table → ℕ → ℕ → Table × ℕ) → ℕ → ℕ → MemoOutcomes
+    Joins op x y = Makes Lending (BothKnown x y) (Unit {0}) (λ t. op t x y) nodes children cuts index memo
+
+    -- "Conjunction",
+    abbrev pub Ands : ℕ → ℕ → MemoOutcomes
+    Ands x y = Joins and x y
+
+    -- and "`or` by negation".
+    abbrev pub Ors : ℕ → ℕ → MemoOutcomes
+    Ors x y = Joins or x y
+
+  -- "Disjointness and reading borrow no memo and change nothing": the number, and the answer. "A yes/no call returns no beside any refusal."
+  module _ (x y : ℕ) where
+    pub data Disjoints : ℕ → Bool → Type 0 where
+      disjoint-1 : (Allowed nodes children cuts index → ⊥) → Disjoints wrongRoom false
+      disjoint-2 : Allowed nodes children cuts index → Unsound nodes children cuts index → Disjoints notSound false
+      disjoint-3 : Allowed nodes children cuts index → (u : ℕ) → SoundLent nodes children cuts index u → (BothKnown x y u → ⊥) → Disjoints unknownId false
+      disjoint-0 : Allowed nodes children cuts index → (u : ℕ) → SoundLent nodes children cuts index u → BothKnown x y u → Disjoints done (is-disjoint (held nodes children cuts u) x y)

@@ -1,0 +1,106 @@
+// What the calls test before any work. "Checks go in the order 1 to 6."
+ghost use Prim.Native.Nat.{_≤_, _<_, _^_};
+ghost use Rattle.diagram.specs.Table.{firstBoolean, variables};
+ghost use Rattle.table.specs.Deciding.{Decides};
+ghost use Rattle.kernel.specs.Makes.{BothKnown};
+ghost use Rattle.kernel.specs.Admitting.{Admits, AdmitsPair};
+use super::answers::WRONG_VARIABLE;
+use ids::NodeId;
+use making::nodes::Head;
+use table::calls::check;
+use table::limits::FIRST_BOOLEAN;
+use table::limits::VARIABLES;
+use table::told::DONE;
+use table::told::UNKNOWN_ID;
+use table::told::WRONG_ROOM;
+use table::words::wide;
+
+// A number, and beside 0 how much of the table is used.
+pub struct Admission {
+    pub number: u32,
+    pub head: Head,
+}
+
+// Refusals 1, 2 and 4, for a call that asks a kind of variable: `kind` says whether the one it is given is of that kind.
+pub fn admit(nodes: &[u32], children: &[u32], cuts: &[i64], index: &[u32], kind: bool) -> Admission
+    ensures { λ r. ⌜ Admits (now (nodes .entry)) (now (children .entry)) (now (cuts .entry)) (now (index .entry)) kind (r .number) (r .head) ⌝ }
+{
+    let c = check(nodes, children, cuts, index);
+    let head = Head {
+        used: c.nodes,
+        edges: c.edges,
+    };
+    if c.number != DONE {
+        return Admission {
+            number: c.number,
+            head,
+        };
+    }
+    if !kind {
+        return Admission {
+            number: WRONG_VARIABLE,
+            head,
+        };
+    }
+    Admission { number: DONE, head }
+}
+
+// Refusals 1, 2 and 3, for a call that is given two ids and is lent a memo of `memo` words.
+pub fn admit_pair(
+    nodes: &[u32],
+    children: &[u32],
+    cuts: &[i64],
+    index: &[u32],
+    memo: usize,
+    x: NodeId,
+    y: NodeId,
+) -> Admission
+    ensures { λ r. ⌜ AdmitsPair (now (nodes .entry)) (now (children .entry)) (now (cuts .entry)) (now (index .entry)) memo (x .0) (y .0) (r .number) (r .head) ⌝ }
+{
+    if memo != nodes.len() / 4 * 3 {
+        return Admission {
+            number: WRONG_ROOM,
+            head: Head { used: 0, edges: 0 },
+        };
+    }
+    let c = check(nodes, children, cuts, index);
+    let head = Head {
+        used: c.nodes,
+        edges: c.edges,
+    };
+    if c.number != DONE {
+        return Admission {
+            number: c.number,
+            head,
+        };
+    }
+    if !both_known(c.nodes, x, y) {
+        return Admission {
+            number: UNKNOWN_ID,
+            head,
+        };
+    }
+    Admission { number: DONE, head }
+}
+
+// Whether it is one of the variables 0 to 31.
+pub fn is_range(v: u32) -> bool
+    ensures { λ r. ⌜ Decides (v < firstBoolean) r ⌝ }
+{
+    wide(v) < FIRST_BOOLEAN
+}
+
+// Whether it is one of the variables 32 to 63.
+pub fn is_boolean(v: u32) -> bool
+    ensures { λ r. ⌜ Decides ((firstBoolean ≤ v) × (v < variables)) r ⌝ }
+{
+    !is_range(v) && wide(v) < VARIABLES
+}
+
+// Whether two ids are known, where this many nodes are used.
+pub fn both_known(used: usize, x: NodeId, y: NodeId) -> bool
+    requires { ⌜ used < 2 ^ 32 ⌝ }
+    ensures { λ r. ⌜ Decides (BothKnown (x .0) (y .0) used) r ⌝ }
+{
+    x.is_known(used as u32) && y.is_known(used as u32)
+}

@@ -1,0 +1,71 @@
+// Conditions. Document 01, step 3. Refusals 1, 2, 4 and 6; "a range condition .. ask[s] a range variable; a boolean condition asks a
+// boolean one".
+ghost use Rattle.kernel.specs.Makes.{FromRange, Compares, FromBool};
+use super::admission::admit;
+use super::admission::is_boolean;
+use super::admission::is_range;
+use super::answers::Answer;
+use super::answers::answer_of;
+use super::answers::refused;
+use ranges::bounds::Bound;
+use ranges::bounds::Comparison;
+use table::told::DONE;
+use table::words::wide;
+
+// "A range by two bounds".
+pub fn from_range(
+    nodes: &mut [u32],
+    children: &mut [u32],
+    cuts: &mut [i64],
+    index: &mut [u32],
+    v: u32,
+    lower: Bound,
+    upper: Bound,
+) -> Answer
+    ensures { λ r. ⌜ FromRange (now (nodes .entry)) (now (children .entry)) (now (cuts .entry)) (now (index .entry)) v lower upper (r .number) (r .id .0) (now (nodes .exit)) (now (children .exit)) (now (cuts .exit)) (now (index .exit)) ⌝ }
+{
+    let a = admit(nodes, children, cuts, index, is_range(v));
+    if a.number != DONE {
+        return refused(a.number);
+    }
+    let head = a.head;
+    answer_of(conditions::from_range(nodes, children, cuts, index, head, wide(v), lower, upper))
+}
+
+// "Six comparisons with a key: = != < <= > >=".
+pub fn from_comparison(
+    nodes: &mut [u32],
+    children: &mut [u32],
+    cuts: &mut [i64],
+    index: &mut [u32],
+    v: u32,
+    op: Comparison,
+    key: i32,
+) -> Answer
+    ensures { λ r. ⌜ Compares (now (nodes .entry)) (now (children .entry)) (now (cuts .entry)) (now (index .entry)) v op key (r .number) (r .id .0) (now (nodes .exit)) (now (children .exit)) (now (cuts .exit)) (now (index .exit)) ⌝ }
+{
+    let a = admit(nodes, children, cuts, index, is_range(v));
+    if a.number != DONE {
+        return refused(a.number);
+    }
+    let head = a.head;
+    answer_of(conditions::from_comparison(nodes, children, cuts, index, head, wide(v), op, key))
+}
+
+// A boolean.
+pub fn from_bool(
+    nodes: &mut [u32],
+    children: &mut [u32],
+    cuts: &mut [i64],
+    index: &mut [u32],
+    v: u32,
+) -> Answer
+    ensures { λ r. ⌜ FromBool (now (nodes .entry)) (now (children .entry)) (now (cuts .entry)) (now (index .entry)) v (r .number) (r .id .0) (now (nodes .exit)) (now (children .exit)) (now (cuts .exit)) (now (index .exit)) ⌝ }
+{
+    let a = admit(nodes, children, cuts, index, is_boolean(v));
+    if a.number != DONE {
+        return refused(a.number);
+    }
+    let head = a.head;
+    answer_of(conditions::from_bool(nodes, children, cuts, index, head, wide(v)))
+}

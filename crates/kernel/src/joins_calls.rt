@@ -1,0 +1,49 @@
+// Conjunction and disjunction. Document 01, step 5. Refusals 1, 2, 3 and 6.
+ghost use Rattle.kernel.specs.Makes.{Ands, Ors};
+use super::admission::admit_pair;
+use super::answers::Answer;
+use super::answers::answer_of;
+use super::answers::refused;
+use conjunction::joins;
+use ids::NodeId;
+use table::told::DONE;
+
+// Both.
+pub fn and(
+    nodes: &mut [u32],
+    children: &mut [u32],
+    cuts: &mut [i64],
+    index: &mut [u32],
+    memo: &mut [u32],
+    x: NodeId,
+    y: NodeId,
+) -> Answer
+    ensures { λ r. ⌜ Ands (now (nodes .entry)) (now (children .entry)) (now (cuts .entry)) (now (index .entry)) (now (memo .entry)) (x .0) (y .0) (r .number) (r .id .0) (now (nodes .exit)) (now (children .exit)) (now (cuts .exit)) (now (index .exit)) (now (memo .exit)) ⌝ }
+{
+    let a = admit_pair(nodes, children, cuts, index, memo.len(), x, y);
+    if a.number != DONE {
+        return refused(a.number);
+    }
+    let head = a.head;
+    answer_of(joins::and(nodes, children, cuts, index, memo, head, x, y))
+}
+
+// One or both.
+pub fn or(
+    nodes: &mut [u32],
+    children: &mut [u32],
+    cuts: &mut [i64],
+    index: &mut [u32],
+    memo: &mut [u32],
+    x: NodeId,
+    y: NodeId,
+) -> Answer
+    ensures { λ r. ⌜ Ors (now (nodes .entry)) (now (children .entry)) (now (cuts .entry)) (now (index .entry)) (now (memo .entry)) (x .0) (y .0) (r .number) (r .id .0) (now (nodes .exit)) (now (children .exit)) (now (cuts .exit)) (now (index .exit)) (now (memo .exit)) ⌝ }
+{
+    let a = admit_pair(nodes, children, cuts, index, memo.len(), x, y);
+    if a.number != DONE {
+        return refused(a.number);
+    }
+    let head = a.head;
+    answer_of(joins::or(nodes, children, cuts, index, memo, head, x, y))
+}
