@@ -1,5 +1,10 @@
-// The speed of the check of a lent table, on full tables, small ones, empty ones, and tables built to be slow. bench/run runs it.
-use lent::table::calls::check;
+// The speed of the check of a lent table, on full tables, small ones, empty ones, and tables built to be slow; ops.rs has that of the
+// operations. bench/run runs it.
+mod ops;
+mod shim;
+#[cfg(stripped)]
+extern crate lent;
+use shim::check;
 use std::collections::{HashMap, HashSet};
 use std::hint::black_box;
 use std::time::{Duration, Instant};
@@ -301,8 +306,7 @@ fn time(name: &str, t: &Table, want: u32, secs: f64) {
     let (n, c, z, i) = (&t.nodes[..], &t.children[..], &t.cuts[..], &t.index[..]);
     let r = check(n, c, z, i);
     assert_eq!(r.number, want, "{name}");
-    if cfg!(nocounts) {
-    } else if want == 0 {
+    if want == 0 {
         assert_eq!((r.nodes, r.edges), (t.used, t.edges), "{name}");
     } else {
         assert_eq!((r.nodes, r.edges), (0, 0));
@@ -345,7 +349,13 @@ fn time(name: &str, t: &Table, want: u32, secs: f64) {
         }
         *longest.entry(h * room as u64 / M).or_insert(0) += 1;
     }
-    println!("{name:58} -> {want}  {:5} nodes {:6} edges  chain {:4}  {:11.2} us {per} ns/edge  ({runs} samples)", t.used, t.edges, longest.values().max().unwrap_or(&0), ns / 1000.0);
+    println!(
+        "{name:58} -> {want}  {:5} nodes {:6} edges  chain {:4}  {:11.2} us {per} ns/edge  ({runs} samples)",
+        t.used,
+        t.edges,
+        longest.values().max().unwrap_or(&0),
+        ns / 1000.0
+    );
 }
 
 // Several tables in turn, so that the branch predictor has not learnt the one table by heart. Time of one check, the mean of a round.
@@ -369,7 +379,13 @@ fn turns(name: &str, ts: &[Table], secs: f64) {
         runs += 1;
     }
     let ns = best.as_nanos() as f64 / ts.len() as f64;
-    println!("{name:58} -> 0  {:5} nodes {:6} edges              {:11.2} us {:9.2} ns/edge  ({runs} rounds)", ts[0].used, ts[0].edges, ns / 1000.0, ns / ts[0].edges as f64);
+    println!(
+        "{name:58} -> 0  {:5} nodes {:6} edges              {:11.2} us {:9.2} ns/edge  ({runs} rounds)",
+        ts[0].used,
+        ts[0].edges,
+        ns / 1000.0,
+        ns / ts[0].edges as f64
+    );
 }
 
 fn main() {
@@ -381,6 +397,10 @@ fn main() {
             time(name, t, want, secs)
         }
     };
+    ops::all(secs, &filter);
+    if filter.starts_with('o') {
+        return;
+    }
     let (room, er) = (4096, 16384);
 
     let a1 = lay(&random(1, room, er, false), room, er);

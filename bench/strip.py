@@ -1,12 +1,14 @@
 #!/usr/bin/env python3
-"""strip.py SRC_REPO OUT_DIR: crates ids, ranges and table of a Rattle repository, without contracts, as one plain Rust crate OUT_DIR/lib.rs.
+"""strip.py SRC_REPO OUT_DIR: the crates of a Rattle repository that have code, without contracts, as modules of one plain Rust crate
+OUT_DIR/lib.rs, and bench/calls.txt as module `calls`.
 
 Strips `requires {..}`, `ensures {..}`, `invariant {..}`, `decreases {..}`/`variant {..}` (balanced braces), `ghost ...;` and
-`ghost {..}`; leaves everything else as it stands, but: `use ids::X` becomes `use crate::ids::X`, and so for ranges, and structs and enums get
+`ghost {..}`; leaves everything else as it stands, but: `ids::X` becomes `crate::ids::X`, and so for each crate, and structs and enums get
 #[derive(Clone, Copy)] (Rattle's are plain data)."""
 import os, re, sys
 
-CRATES = ("ids", "ranges", "table")
+CRATES = ("ids", "ranges", "table", "making", "conditions", "views", "disjointness", "conjunction", "kernel")
+PATH = re.compile(r"(?<![\w:])(" + "|".join(CRATES) + ")::")
 CLAUSE = re.compile(r"(requires|ensures|invariant|decreases|variant|maintains)\b\s*\{")
 
 def balanced(s, i):
@@ -48,10 +50,15 @@ def strip(s):
                 continue
         out.append(s[i]); i += 1
     t = "".join(out)
-    t = re.sub(r"^use (ids|ranges)::", r"use crate::\1::", t, flags=re.M)
+    t = PATH.sub(r"crate::\1::", t)
     t = re.sub(r"^(\s*)(pub )?(struct|enum) ", r"\1#[derive(Clone, Copy)]\n\1\2\3 ", t, flags=re.M)
     t = re.sub(r"[ \t]+\n", "\n", t)
     return re.sub(r"\n{3,}", "\n\n", t).lstrip("\n")
+
+def put(src, dst):
+    t = strip(open(src, encoding="utf-8").read())
+    assert "⌜" not in t and "ghost" not in re.sub(r"//.*", "", t), src
+    open(dst, "w", encoding="utf-8").write(t)
 
 def main():
     repo, out = sys.argv[1:3]
@@ -61,10 +68,8 @@ def main():
         os.makedirs(dst, exist_ok=True)
         for f in sorted(os.listdir(src)):
             if f.endswith(".rt"):
-                name = "mod.rs" if f == "lib.rt" else f[:-3] + ".rs"
-                t = strip(open(os.path.join(src, f), encoding="utf-8").read())
-                assert "⌜" not in t and "ghost" not in re.sub(r"//.*", "", t), f
-                open(os.path.join(dst, name), "w", encoding="utf-8").write(t)
-    open(os.path.join(out, "lib.rs"), "w").write("#![allow(dead_code, unused_imports)]\n" + "".join(f"pub mod {crate};\n" for crate in CRATES) + "")
+                put(os.path.join(src, f), os.path.join(dst, "mod.rs" if f == "lib.rt" else f[:-3] + ".rs"))
+    put(os.path.join(repo, "bench", "calls.txt"), os.path.join(out, "calls.rs"))
+    open(os.path.join(out, "lib.rs"), "w").write("".join(f"pub mod {m};\n" for m in CRATES + ("calls",)))
 
 main()
