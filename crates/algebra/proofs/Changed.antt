@@ -20,6 +20,10 @@ use Rattle.algebra.proofs.Made.{Made, remean}
 use Rattle.algebra.proofs.Conditioning.{rising-between, each-any}
 use Rattle.algebra.proofs.Descending.{bottom, bottom-rising, bottom-at, bottom-here, Changes, changed}
 
+-- restriction is a change
+pub fixed-changes : (v p : ℕ) → Changes v (fixed p)
+fixed-changes v p = record { rising = λ e h. omega arith; kids = λ t e h. each-select (Child t (suc v)) e h p }
+
 module _ (t : Table) (z : Sound t) (v : ℕ) (hv : v < variables) (id : ℕ) (k : Known t id) where
   abbrev whole : Child t 0 id
   whole = (k, omega arith)
@@ -34,7 +38,7 @@ module _ (t : Table) (z : Sound t) (v : ℕ) (hv : v < variables) (id : ℕ) (k 
 
   -- restriction
   pub fixed-made : (p : ℕ) → Made t 0 (λ α. value t (upd α v p) id) (change variables (fixed p) t v id)
-  fixed-made p = moved (fixed p) (record { rising = λ e h. omega arith; kids = λ s e h. each-select (Child s (suc v)) e h p }) (λ q. p) (λ e h q. refl)
+  fixed-made p = moved (fixed p) (fixed-changes v p) (λ q. p) (λ e h q. refl)
 
 -- narrowing
 select-cutAbove : (b t hi : ℕ) (e : Pieces ℕ) (p : ℕ) → Rising b t e → select (cutAbove hi e) p ≡ select e (min p hi)
@@ -66,7 +70,7 @@ each-cutAbove P hi (cut c k e) h = go (leb k hi) (each-cutAbove P hi e (h .1))
     go false i = h .0
 
 module _ (v lo hi : ℕ) (l : lo ≤ hi) (m : hi ≤ topOf v) where
-  narrowed-changes : Changes v (narrowed lo hi)
+  pub narrowed-changes : Changes v (narrowed lo hi)
   narrowed-changes = record {
     rising = λ e r. rising-cutAbove 0 (topOf v) hi (above lo e) (rising-down 0 lo (topOf v) (above lo e) (omega arith) (rising-above 0 (topOf v) lo e (omega arith) r));
     kids = λ t e k. each-cutAbove (Child t (suc v)) hi (above lo e) (each-above (Child t (suc v)) lo e k);
@@ -95,7 +99,7 @@ module _ (v lo hi : ℕ) (l : lo ≤ topOf v) (hv : v < variables) where
   abbrev range : Pieces Bool
   range = between lo hi (topOf v)
 
-  widened-changes : Changes v (widened lo hi (topOf v))
+  pub widened-changes : Changes v (widened lo hi (topOf v))
   widened-changes = record {
     rising = λ e r. rising-map keep 0 (topOf v) (overlay e range) (rising-overlay 0 (topOf v) e range r (rising-between lo hi (topOf v) l));
     kids = λ t e k. each-map keep (λ x. Child t (suc v) (x .0) × Unit {0}) (Child t (suc v)) (λ x y. kept t (x .0) (x .1) (y .0)) (overlay e range) (each-overlay (Child t (suc v)) (λ b. Unit {0}) e range k (each-any range));

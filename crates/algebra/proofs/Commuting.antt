@@ -26,7 +26,7 @@ abbrev swap : {A B : Type 0} → A × B → B × A
 swap p = (p .1, p .0)
 
 -- the overlay of two lists of pieces, by which of their first cuts comes first
-above-same : {B : Type 0} (k t : ℕ) (f : Pieces B) → Rising k t f → above k f ≡ f
+pub above-same : {B : Type 0} (k t : ℕ) (f : Pieces B) → Rising k t f → above k f ≡ f
 unfolding above
 above-same k t (last b) r = refl
 above-same k t (cut b l f) r = rw (lt-leb l k (r .0))
@@ -92,7 +92,7 @@ module _ {A : Type 0} (f g : Table → A → Table × ℕ) (t₀ : Table) (P : A
       ap (λ (y : Table × Pieces ℕ). ((g (y .0) a) .0, cut ((g (y .0) a) .1) k (y .1))) (walkBack-agree t z c e (h .1))
       ∙ ap (λ (x : Table × ℕ). (x .0, cut (x .1) k ((walkBack f t e) .1))) (agree ((walkBack f t e) .0) (w .0) (continues-trans c (w .1)) a (h .0))
 
-  walkIn-agree : (low-first : Bool) (t : Table) → Sound t → Continues t₀ t → (e : Pieces A) → Each P e → walkIn low-first g t e ≡ walkIn low-first f t e
+  pub walkIn-agree : (low-first : Bool) (t : Table) → Sound t → Continues t₀ t → (e : Pieces A) → Each P e → walkIn low-first g t e ≡ walkIn low-first f t e
   unfolding walkIn
   walkIn-agree true t z c e h = walkBack-agree t z c e h
   walkIn-agree false t z c e h = walk-agree t z c e h

@@ -26,7 +26,7 @@ use Rattle.algebra.proofs.Making.{created}
 use Rattle.algebra.proofs.Conjoining.{flip-made}
 
 -- the pieces of a range
-rising-upTo : (b hi t : ℕ) → b ≤ hi → b ≤ t → Rising b t (upTo hi t)
+pub rising-upTo : (b hi t : ℕ) → b ≤ hi → b ≤ t → Rising b t (upTo hi t)
 unfolding upTo
 rising-upTo b hi t l m = go (ltb hi t) refl
   where

@@ -116,10 +116,12 @@ pub record Changes (v : ℕ) (g : Pieces ℕ → Pieces ℕ) : Type 0 where
   pub kids : (t : Table) (e : Pieces ℕ) → Each (Child t (suc v)) e → Each (Child t (suc v)) (g e)
 
 module _ (v : ℕ) (hv : v < variables) (g : Pieces ℕ → Pieces ℕ) (ch : Changes v g) where
-  abbrev means : ℕ → Table → ℕ → Assignment → Bool
+  -- what the change by n steps has to say: what g makes of the edges where the id comes to
+  abbrev pub means : ℕ → Table → ℕ → Assignment → Bool
   means n t id α = value t α (select (g (edgesOf t v (descend n t v α id))) (α v))
 
-  means-continues : (n : ℕ) {t s : Table} → Sound t → Continues t s → (w id : ℕ) → Child t w id → v ≤ w + n → (α : Assignment) → means n s id α ≡ means n t id α
+  -- and it is the same in a table that continues this one
+  pub means-continues : (n : ℕ) {t s : Table} → Sound t → Continues t s → (w id : ℕ) → Child t w id → v ≤ w + n → (α : Assignment) → means n s id α ≡ means n t id α
   means-continues n {t} {s} z c w id k h α =
       let d = descend n t v α id in
       let kd = descend-child n t z v hv α w id k h in

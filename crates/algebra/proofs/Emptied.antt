@@ -27,7 +27,7 @@ use Rattle.algebra.specs.Emptying.{SameBefore, SameAfter, StillChanges, 
 use Rattle.algebra.proofs.Made.{answers}
 use Rattle.algebra.proofs.Descending.{descend, Before, descend-value, bottom-child, Changes, changed}
 
-emptied-changes : (v : ℕ) → v < variables → Changes v emptied
+pub emptied-changes : (v : ℕ) → v < variables → Changes v emptied
 emptied-changes v hv = record { rising = rises; kids = stay }
   where
     rises : (e : Pieces ℕ) → Rising 0 (topOf v) e → Rising 0 (topOf v) (emptied e)

@@ -168,3 +168,9 @@ pub each-merge : (P : ℕ → Type 0) (e : Pieces ℕ) → Each P e → Each P (
 unfolding merge
 each-merge P (last c) h = h
 each-merge P (cut c k e) h = each-join P c k (merge e) (h .0) (each-merge P e (h .1))
+
+-- of edges with no two neighbours alike there is none to merge
+pub merge-reduced : (b t : ℕ) (e : Pieces ℕ) → Reduced b t e → merge e ≡ e
+unfolding merge join
+merge-reduced b t (last c) h = refl
+merge-reduced b t (cut c k e) h = rw (merge-reduced k t e (h .3), ne-eqb c (first e) (h .2))

@@ -4,25 +4,19 @@ use mathlib.Core.Bool.{Bool, true, false, cond, true≢false}
 use Prim.Native.Nat.{ℕ, suc, _≤_, _<_}
 use native.Mathlib.Omega.{arith}
 use lib.Dec.{ltb, eqb}
-use borrow.Author.Tests.{ltb-true, ltb-false, eqb-false, ne-eqb}
+use borrow.Author.Tests.{ltb-true, ltb-false, eqb-false}
 use Rattle.diagram.specs.Pieces.{Pieces, last, cut, first, Each, Reduced}
 use Rattle.diagram.specs.Table.{variables, topOf, Table}
 use Rattle.diagram.specs.Cofactor.{map}
 use Rattle.diagram.specs.Sound.{Child}
 use Rattle.diagram.proofs.Cofactors.{reduced-map, each-map}
-use Rattle.algebra.specs.Overlay.{join, merge}
 use Rattle.algebra.specs.Making.{settle, create-node}
 use Rattle.algebra.specs.Conditions.{upTo, between, terminal}
+use Rattle.algebra.proofs.Overlays.{merge-reduced}
 use Rattle.algebra.proofs.Conditioning.{child-terminal, each-any}
 use Rattle.making.specs.declared.edges.Edges as built
 use Rattle.making.specs.Building.{Building, piecesOf}
 use Rattle.making.specs.Outcome.{Buildable}
-
--- "Neighbouring edges with equal children are merged": there are none.
-pub merge-reduced : (b t : ℕ) (e : Pieces ℕ) → Reduced b t e → merge e ≡ e
-unfolding merge join
-merge-reduced b t (last c) h = refl
-merge-reduced b t (cut c k e) h = rw (merge-reduced k t e (h .3), ne-eqb c (first e) (h .2))
 
 -- The pieces of a range have no two neighbours alike.
 reduced-upTo : (b hi t : ℕ) → b ≤ hi → b ≤ t → Reduced b t (upTo hi t)

@@ -89,7 +89,7 @@ slot-apart c c′ n s d (again h f) g a p i l q = go (ℕ-discrete (i + 1) (n - 
     go (yes e) = g i (omega arith) (sym (a i l) ∙ q ∙ ap c′ e ∙ p ∙ sym f ∙ sym (ap c e))
     go (no m) = g i (omega arith) (sym (a i l) ∙ q ∙ a (i + 1) (omega arith))
 
-put-apart : (c k c′ k′ : ℕ → ℕ) (n s d : ℕ) (whole rest : Pieces ℕ) → Glue c k n whole rest → Put c k c′ k′ n s d → (i : ℕ) → i < s → c′ i ≡ c′ (i + 1) → ⊥
+pub put-apart : (c k c′ k′ : ℕ → ℕ) (n s d : ℕ) (whole rest : Pieces ℕ) → Glue c k n whole rest → Put c k c′ k′ n s d → (i : ℕ) → i < s → c′ i ≡ c′ (i + 1) → ⊥
 put-apart c k c′ k′ n s d whole rest g p = slot-apart c c′ n s d (p .slot) (g .apart) (λ j m. p .keeps j m .0) (p .child)
 
 -- one edge more
