@@ -4,6 +4,8 @@ pub mod Hashing
 pub mod Matching
 pub mod Finding
 pub mod Pairs
+pub mod Slots
+pub mod Merged
 pub mod Stores
 pub mod Stored
 pub mod Kept

@@ -1,7 +1,7 @@
 // A node under construction: an array by value of 64 edge structs with a count.
 ghost use mathlib.Core.Path.{_≡_};
 ghost use mathlib.Core.Bool.{cond, _&&_};
-ghost use Prim.Native.Nat.{ℕ, _+_, _<_};
+ghost use Prim.Native.Nat.{ℕ, _+_, _-_, _<_};
 ghost use lib.Dec.{ltb};
 ghost use lib.ListN.{length};
 ghost use Rattle.ids.specs.Id.{sign};
@@ -65,6 +65,47 @@ pub fn pair_of(high: NodeId, low: NodeId) -> Edges
         spare: 0,
     };
     out.len = 2;
+    out
+}
+
+// "Neighbouring edges with equal children are merged": an edge to the child of the last one goes into its slot, else into the next.
+pub fn slot_for(len: usize, last: NodeId, id: NodeId) -> usize
+    ensures { λ r. ⌜ (0 < len → last .0 ≡ id .0 → r ≡ len - 1) × ((0 < len → last .0 ≡ id .0 → ⊥) → r ≡ len) ⌝ }
+{
+    if len == 0 {
+        return 0;
+    }
+    if last.0 == id.0 {
+        return len - 1;
+    }
+    len
+}
+
+// "Neighbouring edges with equal children are merged": each edge goes into the slot of the last one where their children agree, else into
+// the next. In place: the slots below `len` are merged already, those from j on are as they were.
+pub fn merged(es: Edges) -> Edges
+    requires { ⌜ Building es ⌝ }
+    ensures { λ r. ⌜ (Building r) × (piecesOf r ≡ merge (piecesOf es)) ⌝ }
+{
+    let count = es.len;
+    let mut out = es;
+    let mut last = NodeId::FALSE;
+    let mut len = 0;
+    let mut j = 0;
+    while j < count {
+        let e = out.list[j];
+        let c = e.child;
+        let n = slot_for(len, last, c);
+        out.list[n] = Edge {
+            cut: e.cut,
+            child: c,
+            spare: 0,
+        };
+        last = c;
+        len = n + 1;
+        j += 1;
+    }
+    out.len = len;
     out
 }
 
