@@ -12,10 +12,11 @@ use lib.IntN.{ℤ}
 use borrow.Author.Tests.{lt-ltb, eq-eqb, ne-eqb}
 use Rattle.ids.specs.Id.{ref}
 use Rattle.diagram.specs.Pieces.{count}
-use Rattle.diagram.specs.Table.{variables, firstBoolean, isRange, Table, at}
+use Rattle.diagram.specs.Table.{variables, firstBoolean, isRange, Table, at, value}
 use Rattle.diagram.specs.Cofactor.{edgesOf}
 use Rattle.diagram.specs.Sound.{Known, Child}
-use Rattle.diagram.proofs.Facts.{facts, is-node, var-most}
+use Rattle.diagram.proofs.Continuing.{continues-length, continues-value}
+use Rattle.diagram.proofs.Facts.{facts, is-node}
 use Rattle.diagram.proofs.Cofactors.{edge-other, count-own}
 use Rattle.algebra.specs.Conjunction.{opening, conj-node, conj}
 use Rattle.algebra.proofs.Conjoining.{opening-none}
@@ -25,18 +26,29 @@ use Rattle.merging.proofs.Conjoined as joined
 use Rattle.making.specs.declared.nodes.Head.{Head}
 use Rattle.making.specs.Outcome.{tableOf}
 use Rattle.views.specs.declared.View.{View}
-use Rattle.views.specs.Seeing.{Readable, Asked, Inside, Views, seen}
-use Rattle.views.proofs.Sights.{readable, known-held, views-rising, views-kids, count-bool, seen-count}
-use Rattle.conjunction.specs.Recalling.{Entry}
-use Rattle.conjunction.specs.Joining.{Ready, Sides, both}
-use Rattle.conjunction.proofs.Composing.{sound-of}
+use Rattle.views.specs.Seeing.{Asked, Inside, Views, seen}
+use Rattle.views.proofs.Sights.{known-held, views-rising, views-kids, count-bool, seen-count}
+use Rattle.walks.specs.Walking.{Ready, Sides, both}
+use Rattle.walks.proofs.Composing.{Grows, sound-of, can-read, call-left}
+use Rattle.walks.proofs.Walk.{Walk}
+use Rattle.conjunction.specs.Joining.{Entry, pairs}
 
-module _ {h : Head} {nodes children : List ℕ} {cuts : List ℤ} {index memo : List ℕ} (r : Ready h nodes children cuts index memo) where
+-- An entry stays true of a table that continues this one.
+pub entry-grown : Grows Entry
+entry-grown t t′ z z′ g x y c e = record {
+  left-known = omega (arith, continues-length g, e .left-known);
+  right-known = omega (arith, continues-length g, e .right-known);
+  known = omega (arith, continues-length g, e .known);
+  means = λ α. rw (continues-value g α x (e .left-known), continues-value g α y (e .right-known), continues-value g α c (e .known)) (e .means α);
+}
+
+-- The walk of conjunction.
+abbrev pub conj-walk : (v n : ℕ) → Walk v n
+conj-walk v n = record { note = Entry; grows = entry-grown; f = pairs n; m = λ t p α. value t α (p .0) && value t α (p .1); made = λ e t z. joined.conj-made n t (suc v) e }
+
+module _ {h : Head} {nodes children : List ℕ} {cuts : List ℤ} {index memo : List ℕ} (r : Ready Entry h nodes children cuts index memo) where
   abbrev t : Table
   t = tableOf h nodes children cuts
-
-  pub can-read : Readable nodes children cuts (h .used)
-  can-read = readable nodes children cuts index (h .used) (r .lent .allowed) (r .lent .sound)
 
   module _ {n x y : ℕ} (ax : Asked t (h .used) n x) (ay : Asked t (h .used) n y) where
     abbrev u : ℕ
@@ -51,12 +63,8 @@ module _ {h : Head} {nodes children : List ℕ} {cuts : List ℤ} {index memo : 
     right-known : Known t y
     right-known = known-held nodes children cuts (h .used) y (ay .known)
 
-    -- a call is left
-    pub call-left : 1 ≤ n
-    call-left = omega (arith, var-most t (sound-of (r .lent)) (ref x) left-known, ax .ahead)
-
     one-less : n ≡ suc (n - 1)
-    one-less = omega (arith, call-left)
+    one-less = omega (arith, call-left r ax)
 
     enough : variables < min u w + n
     enough = omega (arith, ax .ahead, ay .ahead)
@@ -114,14 +122,14 @@ module _ {h : Head} {nodes children : List ℕ} {cuts : List ℤ} {index memo : 
         pub sides : Sides t (h .edges) children cuts v (n - 1) a b
         sides = record {
           known = hv;
-          enough = omega (arith, enough, ev, call-left);
+          enough = omega (arith, enough, ev, call-left r ax);
           tested = tested;
           left = within (va .inside);
           right = within (vb .inside);
-          left-rises = views-rising nodes children cuts (h .used) v x a can-read hv lx va;
-          right-rises = views-rising nodes children cuts (h .used) v y b can-read hv ly vb;
-          left-kids = views-kids nodes children cuts (h .used) v x a can-read hv lx va;
-          right-kids = views-kids nodes children cuts (h .used) v y b can-read hv ly vb;
+          left-rises = views-rising nodes children cuts (h .used) v x a (can-read r) hv lx va;
+          right-rises = views-rising nodes children cuts (h .used) v y b (can-read r) hv ly vb;
+          left-kids = views-kids nodes children cuts (h .used) v x a (can-read r) hv lx va;
+          right-kids = views-kids nodes children cuts (h .used) v y b (can-read r) hv ly vb;
         }
 
         -- Both test a boolean variable exactly when they have as many edges.
@@ -129,10 +137,10 @@ module _ {h : Head} {nodes children : List ℕ} {cuts : List ℤ} {index memo : 
         same-count g = go (ℕ-discrete u v) (ℕ-discrete w v)
           where
             ca : a .count ≤ 2
-            ca = count-bool nodes children cuts (h .used) v x a can-read hv lx va g
+            ca = count-bool nodes children cuts (h .used) v x a (can-read r) hv lx va g
 
             cb : b .count ≤ 2
-            cb = count-bool nodes children cuts (h .used) v y b can-read hv ly vb g
+            cb = count-bool nodes children cuts (h .used) v y b (can-read r) hv ly vb g
 
             go : Dec (u ≡ v) → Dec (w ≡ v) → eqb (a .count) (b .count) ≡ eqb u w
             go (yes p) (yes q) = eq-eqb (a .count) (b .count) (omega (arith, many x a left-known va p, many y b right-known vb q, ca, cb)) ∙ sym (eq-eqb u w (p ∙ sym q))
@@ -144,10 +152,10 @@ module _ {h : Head} {nodes children : List ℕ} {cuts : List ℤ} {index memo : 
         order = ⊎-elim (λ l. rw (lt-ltb v firstBoolean l)) (λ l. ap (λ (e : Bool). not (isRange v) && not e) (same-count l)) (split v firstBoolean)
 
         -- The merge of both sides, in its order, is the conjunction.
-        pub both-is : both (not (isRange v) && not (eqb (a .count) (b .count))) (n - 1) t v (seen children cuts v a 0) (seen children cuts v b 0) ≡ conj n t x y
+        pub both-is : both (not (isRange v) && not (eqb (a .count) (b .count))) (pairs (n - 1)) t v (seen children cuts v a 0) (seen children cuts v b 0) ≡ conj n t x y
         unfolding both conj-node
         both-is =
-            ap (λ (back : Bool). both back (n - 1) t v (seen children cuts v a 0) (seen children cuts v b 0)) order
-            ∙ (ap₂ (both (not (isRange v) && not (eqb u w)) (n - 1) t v) (va .edges) (vb .edges)
-            ∙ (ap (λ (i : ℕ). both (not (isRange i) && not (eqb u w)) (n - 1) t i (edgesOf t i x) (edgesOf t i y)) ev
+            ap (λ (back : Bool). both back (pairs (n - 1)) t v (seen children cuts v a 0) (seen children cuts v b 0)) order
+            ∙ (ap₂ (both (not (isRange v) && not (eqb u w)) (pairs (n - 1)) t v) (va .edges) (vb .edges)
+            ∙ (ap (λ (i : ℕ). both (not (isRange i) && not (eqb u w)) (pairs (n - 1)) t i (edgesOf t i x) (edgesOf t i y)) ev
             ∙ (sym (joined.conj-walked (n - 1) t x y none) ∙ ap (λ (m : ℕ). conj m t x y) (sym one-less))))

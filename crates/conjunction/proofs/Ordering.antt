@@ -16,8 +16,9 @@ use Rattle.making.specs.Building.{piecesOf}
 use Rattle.making.specs.declared.nodes.Head.{Head}
 use Rattle.making.specs.declared.nodes.Made.{Made}
 use Rattle.making.specs.Outcome.{tableOf}
-use Rattle.conjunction.specs.Joining.{Conjoined, both}
-use Rattle.conjunction.proofs.Composing.{becomes}
+use Rattle.walks.specs.Walking.{Stepped, both}
+use Rattle.walks.proofs.Composing.{becomes}
+use Rattle.conjunction.specs.Joining.{Entry, pairs}
 
 range-order : (v : ℕ) → v < firstBoolean → (z : Bool) → false ≡ (not (isRange v) && z)
 range-order v h z = rw (lt-ltb v firstBoolean h) refl
@@ -26,11 +27,11 @@ bool-order : (v : ℕ) → firstBoolean ≤ v → (z : Bool) → z ≡ (not (isR
 bool-order v h z = rw (le-ltb v firstBoolean h) refl
 
 module _ (h : Head) (nodes children : List ℕ) (cuts : List ℤ) (memo : List ℕ) (a b : View) (v n : ℕ) {m : Made} {nodes′ children′ : List ℕ} {cuts′ : List ℤ} {index′ memo′ : List ℕ} where
-  pub left-to-right : v < firstBoolean → Conjoined h (both false n (tableOf h nodes children cuts) v (seen children cuts v a 0) (seen children cuts v b 0)) m nodes children cuts memo nodes′ children′ cuts′ index′ memo′ → Conjoined h (both (not (isRange v) && not (eqb (a .count) (b .count))) n (tableOf h nodes children cuts) v (seen children cuts v a 0) (seen children cuts v b 0)) m nodes children cuts memo nodes′ children′ cuts′ index′ memo′
-  left-to-right l c = becomes c (ap (λ (back : Bool). both back n (tableOf h nodes children cuts) v (seen children cuts v a 0) (seen children cuts v b 0)) (range-order v l (not (eqb (a .count) (b .count)))))
+  pub left-to-right : v < firstBoolean → Stepped Entry h (both false (pairs n) (tableOf h nodes children cuts) v (seen children cuts v a 0) (seen children cuts v b 0)) m nodes children cuts memo nodes′ children′ cuts′ index′ memo′ → Stepped Entry h (both (not (isRange v) && not (eqb (a .count) (b .count))) (pairs n) (tableOf h nodes children cuts) v (seen children cuts v a 0) (seen children cuts v b 0)) m nodes children cuts memo nodes′ children′ cuts′ index′ memo′
+  left-to-right l c = becomes c (ap (λ (back : Bool). both back (pairs n) (tableOf h nodes children cuts) v (seen children cuts v a 0) (seen children cuts v b 0)) (range-order v l (not (eqb (a .count) (b .count)))))
 
-  pub by-tests : firstBoolean ≤ v → Conjoined h (both (not (eqb (a .count) (b .count))) n (tableOf h nodes children cuts) v (seen children cuts v a 0) (seen children cuts v b 0)) m nodes children cuts memo nodes′ children′ cuts′ index′ memo′ → Conjoined h (both (not (isRange v) && not (eqb (a .count) (b .count))) n (tableOf h nodes children cuts) v (seen children cuts v a 0) (seen children cuts v b 0)) m nodes children cuts memo nodes′ children′ cuts′ index′ memo′
-  by-tests l c = becomes c (ap (λ (back : Bool). both back n (tableOf h nodes children cuts) v (seen children cuts v a 0) (seen children cuts v b 0)) (bool-order v l (not (eqb (a .count) (b .count)))))
+  pub by-tests : firstBoolean ≤ v → Stepped Entry h (both (not (eqb (a .count) (b .count))) (pairs n) (tableOf h nodes children cuts) v (seen children cuts v a 0) (seen children cuts v b 0)) m nodes children cuts memo nodes′ children′ cuts′ index′ memo′ → Stepped Entry h (both (not (isRange v) && not (eqb (a .count) (b .count))) (pairs n) (tableOf h nodes children cuts) v (seen children cuts v a 0) (seen children cuts v b 0)) m nodes children cuts memo nodes′ children′ cuts′ index′ memo′
+  by-tests l c = becomes c (ap (λ (back : Bool). both back (pairs n) (tableOf h nodes children cuts) v (seen children cuts v a 0) (seen children cuts v b 0)) (bool-order v l (not (eqb (a .count) (b .count)))))
 
 -- The two answers as edges, high and low.
 pub pieces-back : (back : Bool) (es : built.Edges) (one two : ℕ) → back ≡ true → piecesOf es ≡ merge (cut two 1 (last one)) → piecesOf es ≡ merge (cut (cond back two one) 1 (last (cond back one two)))

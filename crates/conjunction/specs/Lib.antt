@@ -1,3 +1,2 @@
--- Conjunction on a lent table: the memo, and what the pair walk and the edge merge ask and leave. Assumes nothing.
-pub mod Recalling
+-- Conjunction on a lent table: what its memo notes. Assumes nothing.
 pub mod Joining

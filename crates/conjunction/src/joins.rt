@@ -6,17 +6,16 @@ ghost use Rattle.ids.specs.Index.{KnownTo};
 ghost use Rattle.algebra.specs.Conjunction.{and as conjunction, or as disjunction};
 ghost use Rattle.table.specs.Layout.{room};
 ghost use Rattle.making.specs.Outcome.{Lent, tableOf};
-ghost use Rattle.conjunction.specs.Joining.{Joins};
+ghost use Rattle.walks.specs.Walking.{Worked};
 use super::pairs::conjoin;
 use ids::NodeId;
 use making::nodes::Head;
 use making::nodes::Made;
-use making::undo::undo;
 use table::fresh::zero_words;
 use table::limits::VARIABLES;
+use walks::finish::finish;
 
-// "The memo is scratch: zeroed at entry", and zero at the end. Where there is no room, the nodes that were made on the way are taken back:
-// "leaving nodes behind after "no room"" was a fault.
+// "The memo is scratch: zeroed at entry".
 pub fn and(
     nodes: &mut [u32],
     children: &mut [u32],
@@ -28,7 +27,7 @@ pub fn and(
     y: NodeId,
 ) -> Made
     requires { ⌜ (Lent head (now nodes) (now children) (now cuts) (now index)) × (length (now memo) ≡ room (now nodes) * 3) × (KnownTo (head .used) (x .0)) × (KnownTo (head .used) (y .0)) ⌝ }
-    ensures { λ r. ⌜ Joins head (conjunction (tableOf head (now (nodes .entry)) (now (children .entry)) (now (cuts .entry))) (x .0) (y .0)) r (now (nodes .entry)) (now (children .entry)) (now (cuts .entry)) (now (index .entry)) (now (memo .entry)) (now (nodes .exit)) (now (children .exit)) (now (cuts .exit)) (now (index .exit)) (now (memo .exit)) ⌝ }
+    ensures { λ r. ⌜ Worked head (conjunction (tableOf head (now (nodes .entry)) (now (children .entry)) (now (cuts .entry))) (x .0) (y .0)) r (now (nodes .entry)) (now (children .entry)) (now (cuts .entry)) (now (index .entry)) (now (memo .entry)) (now (nodes .exit)) (now (children .exit)) (now (cuts .exit)) (now (index .exit)) (now (memo .exit)) ⌝ }
 {
     zero_words(memo);
     let m = conjoin(
@@ -42,17 +41,7 @@ pub fn and(
         y,
         VARIABLES + 1,
     );
-    zero_words(memo);
-    if m.ok {
-        return m;
-    }
-    let now = m.head;
-    let back = undo(nodes, children, cuts, index, now, head.used);
-    Made {
-        ok: false,
-        id: NodeId::FALSE,
-        head: back,
-    }
+    finish(nodes, children, cuts, index, memo, m, head.used)
 }
 
 // "`or` by negation."
@@ -67,7 +56,7 @@ pub fn or(
     y: NodeId,
 ) -> Made
     requires { ⌜ (Lent head (now nodes) (now children) (now cuts) (now index)) × (length (now memo) ≡ room (now nodes) * 3) × (KnownTo (head .used) (x .0)) × (KnownTo (head .used) (y .0)) ⌝ }
-    ensures { λ r. ⌜ Joins head (disjunction (tableOf head (now (nodes .entry)) (now (children .entry)) (now (cuts .entry))) (x .0) (y .0)) r (now (nodes .entry)) (now (children .entry)) (now (cuts .entry)) (now (index .entry)) (now (memo .entry)) (now (nodes .exit)) (now (children .exit)) (now (cuts .exit)) (now (index .exit)) (now (memo .exit)) ⌝ }
+    ensures { λ r. ⌜ Worked head (disjunction (tableOf head (now (nodes .entry)) (now (children .entry)) (now (cuts .entry))) (x .0) (y .0)) r (now (nodes .entry)) (now (children .entry)) (now (cuts .entry)) (now (index .entry)) (now (memo .entry)) (now (nodes .exit)) (now (children .exit)) (now (cuts .exit)) (now (index .exit)) (now (memo .exit)) ⌝ }
 {
     let m = and(nodes, children, cuts, index, memo, head, x.not(), y.not());
     let id = m.id;

@@ -5,12 +5,7 @@ ghost use mathlib.Core.Option.{some, none};
 ghost use Rattle.algebra.specs.Conjunction.{opening};
 use ids::NodeId;
 use views::opposed;
-
-// An id, if it is settled.
-pub struct Settled {
-    pub done: bool,
-    pub id: NodeId,
-}
+use walks::memo::Settled;
 
 // x is TRUE, y is TRUE, they are equal, one is FALSE or they are opposite.
 pub fn opened(x: NodeId, y: NodeId) -> Settled

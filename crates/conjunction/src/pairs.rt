@@ -1,106 +1,32 @@
 // The pair walk and the edge merge, which call each other; the number of variables still ahead falls.
-ghost use mathlib.Core.Path.{_≡_};
-ghost use mathlib.Core.Bool.{false, cond, not, _&&_};
-ghost use Prim.Native.Nat.{_-_, _≤_, _<_};
+ghost use mathlib.Core.Bool.{false, not, _&&_};
+ghost use Prim.Native.Nat.{_≤_, _<_};
 ghost use lib.Dec.{eqb};
 ghost use Rattle.diagram.specs.Table.{firstBoolean, isRange};
 ghost use Rattle.algebra.specs.Conjunction.{conj};
 ghost use Rattle.making.specs.Outcome.{tableOf};
 ghost use Rattle.views.specs.Seeing.{Asked, seen};
-ghost use Rattle.conjunction.specs.Joining.{Ready, Conjoined, Sides, Advances, both};
-use super::memo::recall;
-use super::memo::remember;
+ghost use Rattle.walks.specs.Walking.{Ready, Stepped, Sides, both};
+ghost use Rattle.conjunction.specs.Joining.{Entry, pairs};
 use super::opening::opened;
 use ids::NodeId;
 use making::edges::Edge;
 use making::edges::Edges;
 use making::edges::pair_of;
+use making::edges::slot_for;
 use making::nodes::Head;
 use making::nodes::Made;
 use making::nodes::create_node;
 use table::limits::FIRST_BOOLEAN;
-use table::limits::MOST_EDGES;
-use views::END;
 use views::View;
 use views::child;
 use views::cut;
 use views::first_variable;
 use views::view_of;
-
-// How the merge goes on after one overlap: the slot and the cut of its edge, how far each side goes, and whether there is more.
-pub struct Step {
-    pub ok: bool,
-    pub more: bool,
-    pub slot: usize,
-    pub cut: usize,
-    pub left: usize,
-    pub right: usize,
-}
-
-impl Step {
-    // No room: the merge is left.
-    pub const STOPPED: Step = Step {
-        ok: false,
-        more: false,
-        slot: 0,
-        cut: 0,
-        left: 0,
-        right: 0,
-    };
-}
-
-// "Neighbouring edges with equal children are merged": an edge to the child of the last one goes into its slot, else into the next.
-fn slot_for(len: usize, last: NodeId, id: NodeId) -> usize
-    ensures { λ r. ⌜ (0 < len → last .0 ≡ id .0 → r ≡ len - 1) × ((0 < len → last .0 ≡ id .0 → ⊥) → r ≡ len) ⌝ }
-{
-    if len == 0 {
-        return 0;
-    }
-    if last.0 == id.0 {
-        return len - 1;
-    }
-    len
-}
-
-// One overlap, of edges up to the cuts k and l, its own edge going into a slot. A 65th slot there is not.
-fn advance(ok: bool, slot: usize, k: usize, l: usize) -> Step
-    ensures { λ r. ⌜ Advances ok slot k l (r .ok) (r .more) (r .slot) (r .cut) (r .left) (r .right) ⌝ }
-{
-    if !ok {
-        return Step::STOPPED;
-    }
-    if MOST_EDGES <= slot {
-        return Step::STOPPED;
-    }
-    if k < l {
-        return Step {
-            ok: true,
-            more: true,
-            slot,
-            cut: k,
-            left: 1,
-            right: 0,
-        };
-    }
-    if l < k {
-        return Step {
-            ok: true,
-            more: true,
-            slot,
-            cut: l,
-            left: 0,
-            right: 1,
-        };
-    }
-    Step {
-        ok: true,
-        more: k < END,
-        slot,
-        cut: k,
-        left: 1,
-        right: 1,
-    }
-}
+use walks::memo::recall;
+use walks::memo::remember;
+use walks::steps::advance;
+use walks::steps::edge_of;
 
 // Conjunction of two ids: what they alone decide, what the memo recalls, or the merge of their edges at the first variable of the two.
 // `ahead` is more than the variables that are still ahead.
@@ -115,8 +41,8 @@ pub fn conjoin(
     y: NodeId,
     ahead: usize,
 ) -> Made
-    requires { ⌜ (Ready head (now nodes) (now children) (now cuts) (now index) (now memo)) × (Asked (tableOf head (now nodes) (now children) (now cuts)) (head .used) ahead (x .0)) × (Asked (tableOf head (now nodes) (now children) (now cuts)) (head .used) ahead (y .0)) ⌝ }
-    ensures { λ r. ⌜ Conjoined head (conj ahead (tableOf head (now (nodes .entry)) (now (children .entry)) (now (cuts .entry))) (x .0) (y .0)) r (now (nodes .entry)) (now (children .entry)) (now (cuts .entry)) (now (memo .entry)) (now (nodes .exit)) (now (children .exit)) (now (cuts .exit)) (now (index .exit)) (now (memo .exit)) ⌝ }
+    requires { ⌜ (Ready Entry head (now nodes) (now children) (now cuts) (now index) (now memo)) × (Asked (tableOf head (now nodes) (now children) (now cuts)) (head .used) ahead (x .0)) × (Asked (tableOf head (now nodes) (now children) (now cuts)) (head .used) ahead (y .0)) ⌝ }
+    ensures { λ r. ⌜ Stepped Entry head (conj ahead (tableOf head (now (nodes .entry)) (now (children .entry)) (now (cuts .entry))) (x .0) (y .0)) r (now (nodes .entry)) (now (children .entry)) (now (cuts .entry)) (now (memo .entry)) (now (nodes .exit)) (now (children .exit)) (now (cuts .exit)) (now (index .exit)) (now (memo .exit)) ⌝ }
 {
     let s = opened(x, y);
     if s.done {
@@ -153,8 +79,8 @@ fn apply(
     v: usize,
     ahead: usize,
 ) -> Made
-    requires { ⌜ (Ready head (now nodes) (now children) (now cuts) (now index) (now memo)) × (Sides (tableOf head (now nodes) (now children) (now cuts)) (head .edges) (now children) (now cuts) v ahead a b) ⌝ }
-    ensures { λ r. ⌜ Conjoined head (both (not (isRange v) && not (eqb (a .count) (b .count))) ahead (tableOf head (now (nodes .entry)) (now (children .entry)) (now (cuts .entry))) v (seen (now (children .entry)) (now (cuts .entry)) v a 0) (seen (now (children .entry)) (now (cuts .entry)) v b 0)) r (now (nodes .entry)) (now (children .entry)) (now (cuts .entry)) (now (memo .entry)) (now (nodes .exit)) (now (children .exit)) (now (cuts .exit)) (now (index .exit)) (now (memo .exit)) ⌝ }
+    requires { ⌜ (Ready Entry head (now nodes) (now children) (now cuts) (now index) (now memo)) × (Sides (tableOf head (now nodes) (now children) (now cuts)) (head .edges) (now children) (now cuts) v ahead a b) ⌝ }
+    ensures { λ r. ⌜ Stepped Entry head (both (not (isRange v) && not (eqb (a .count) (b .count))) (pairs ahead) (tableOf head (now (nodes .entry)) (now (children .entry)) (now (cuts .entry))) v (seen (now (children .entry)) (now (cuts .entry)) v a 0) (seen (now (children .entry)) (now (cuts .entry)) v b 0)) r (now (nodes .entry)) (now (children .entry)) (now (cuts .entry)) (now (memo .entry)) (now (nodes .exit)) (now (children .exit)) (now (cuts .exit)) (now (index .exit)) (now (memo .exit)) ⌝ }
 {
     if v < FIRST_BOOLEAN {
         return apply_ranges(nodes, children, cuts, index, memo, head, a, b, v, ahead);
@@ -188,8 +114,8 @@ fn apply_ranges(
     v: usize,
     ahead: usize,
 ) -> Made
-    requires { ⌜ (Ready head (now nodes) (now children) (now cuts) (now index) (now memo)) × (Sides (tableOf head (now nodes) (now children) (now cuts)) (head .edges) (now children) (now cuts) v ahead a b) × (v < firstBoolean) ⌝ }
-    ensures { λ r. ⌜ Conjoined head (both false ahead (tableOf head (now (nodes .entry)) (now (children .entry)) (now (cuts .entry))) v (seen (now (children .entry)) (now (cuts .entry)) v a 0) (seen (now (children .entry)) (now (cuts .entry)) v b 0)) r (now (nodes .entry)) (now (children .entry)) (now (cuts .entry)) (now (memo .entry)) (now (nodes .exit)) (now (children .exit)) (now (cuts .exit)) (now (index .exit)) (now (memo .exit)) ⌝ }
+    requires { ⌜ (Ready Entry head (now nodes) (now children) (now cuts) (now index) (now memo)) × (Sides (tableOf head (now nodes) (now children) (now cuts)) (head .edges) (now children) (now cuts) v ahead a b) × (v < firstBoolean) ⌝ }
+    ensures { λ r. ⌜ Stepped Entry head (both false (pairs ahead) (tableOf head (now (nodes .entry)) (now (children .entry)) (now (cuts .entry))) v (seen (now (children .entry)) (now (cuts .entry)) v a 0) (seen (now (children .entry)) (now (cuts .entry)) v b 0)) r (now (nodes .entry)) (now (children .entry)) (now (cuts .entry)) (now (memo .entry)) (now (nodes .exit)) (now (children .exit)) (now (cuts .exit)) (now (index .exit)) (now (memo .exit)) ⌝ }
 {
     let mut out = Edges::new();
     let mut now = head;
@@ -232,17 +158,6 @@ fn apply_ranges(
     create_node(nodes, children, cuts, index, now, v, out)
 }
 
-// The edge of a boolean variable: high is the first, low the last. An id that does not test it has one edge for both.
-fn edge_of(count: usize, low: bool) -> usize
-    requires { ⌜ 1 ≤ count ⌝ }
-    ensures { λ r. ⌜ r ≡ cond low (count - 1) 0 ⌝ }
-{
-    if low {
-        return count - 1;
-    }
-    0
-}
-
 // The high children and the low ones, or, back, the low ones first.
 fn apply_booleans(
     nodes: &mut [u32],
@@ -257,8 +172,8 @@ fn apply_booleans(
     back: bool,
     ahead: usize,
 ) -> Made
-    requires { ⌜ (Ready head (now nodes) (now children) (now cuts) (now index) (now memo)) × (Sides (tableOf head (now nodes) (now children) (now cuts)) (head .edges) (now children) (now cuts) v ahead a b) × (firstBoolean ≤ v) ⌝ }
-    ensures { λ r. ⌜ Conjoined head (both back ahead (tableOf head (now (nodes .entry)) (now (children .entry)) (now (cuts .entry))) v (seen (now (children .entry)) (now (cuts .entry)) v a 0) (seen (now (children .entry)) (now (cuts .entry)) v b 0)) r (now (nodes .entry)) (now (children .entry)) (now (cuts .entry)) (now (memo .entry)) (now (nodes .exit)) (now (children .exit)) (now (cuts .exit)) (now (index .exit)) (now (memo .exit)) ⌝ }
+    requires { ⌜ (Ready Entry head (now nodes) (now children) (now cuts) (now index) (now memo)) × (Sides (tableOf head (now nodes) (now children) (now cuts)) (head .edges) (now children) (now cuts) v ahead a b) × (firstBoolean ≤ v) ⌝ }
+    ensures { λ r. ⌜ Stepped Entry head (both back (pairs ahead) (tableOf head (now (nodes .entry)) (now (children .entry)) (now (cuts .entry))) v (seen (now (children .entry)) (now (cuts .entry)) v a 0) (seen (now (children .entry)) (now (cuts .entry)) v b 0)) r (now (nodes .entry)) (now (children .entry)) (now (cuts .entry)) (now (memo .entry)) (now (nodes .exit)) (now (children .exit)) (now (cuts .exit)) (now (index .exit)) (now (memo .exit)) ⌝ }
 {
     let x = child(children, a, edge_of(a.count, back));
     let y = child(children, b, edge_of(b.count, back));

@@ -1,6 +1,6 @@
 -- The merge at a range variable: what its loop keeps, and each of its steps. Assumes nothing.
 use mathlib.Core.Path.{_≡_, refl, sym, _∙_, ap, ap₂, subst}
-use mathlib.Core.Bool.{Bool, true, false, cond, _&&_}
+use mathlib.Core.Bool.{Bool, true, false, cond}
 use mathlib.Core.List.{List}
 use mathlib.Core.Logic.{_⊎_, inl, inr, ⊎-elim}
 use Prim.Native.Nat.{ℕ, suc, _+_, _-_, _/_, _≤_, _<_}
@@ -13,13 +13,13 @@ use lib.IntN.{ℤ}
 use borrow.Author.Tests.{lt-ltb, ltb-true, ltb-false}
 use Rattle.ids.specs.declared.NodeId.{NodeId}
 use Rattle.diagram.specs.Pieces.{Pieces, last, cut, first, Each, Rising, Reduced, run}
-use Rattle.diagram.specs.Table.{firstBoolean, topOf, Table, value}
+use Rattle.diagram.specs.Table.{firstBoolean, topOf, Table}
 use Rattle.diagram.specs.Room.{mostEdges, Fits}
 use Rattle.diagram.specs.Sound.{Child, same}
 use Rattle.diagram.proofs.Continuing.{continues-child}
 use Rattle.algebra.specs.Overlay.{overlay, merge}
 use Rattle.algebra.specs.Making.{settle}
-use Rattle.algebra.specs.Conjunction.{walk, walkIn, create-over, conj}
+use Rattle.algebra.specs.Conjunction.{walk, walkIn, create-over}
 use Rattle.algebra.proofs.Overlays.{rising-overlay, each-overlay, reduced-merge, each-merge}
 use Rattle.algebra.proofs.Walking.{Walked, walked}
 use Rattle.table.specs.Layout.{room}
@@ -27,7 +27,6 @@ use Rattle.table.proofs.Laws.{split, clash}
 use Rattle.merging.proofs.Gluing.{Slot, next, again, Put}
 use Rattle.merging.proofs.Stepping.{Going, going-none, going-less, going-same, going-more, going-last-cut, going-cut-last, going-last, going-over}
 use Rattle.merging.proofs.Fitting.{full-wide, full-child}
-use Rattle.merging.proofs.Conjoined.{conj-made}
 use Rattle.views.specs.declared.View.{View}
 use Rattle.views.specs.Seeing.{Asked, Inside, beyond, childSeen, cutSeen, seen}
 use Rattle.views.proofs.Sights.{seen-last, seen-cut, rising-cut, childSeen-stays, cutSeen-stays, cutSeen-range}
@@ -38,9 +37,10 @@ use Rattle.making.specs.declared.nodes.Made.{Made}
 use Rattle.making.specs.Building.{none, childIn, cutIn, piecesOf}
 use Rattle.making.specs.Outcome.{Stays, Outcome, Buildable, tableOf}
 use Rattle.making.proofs.Kept.{stays-here, stays-trans, continued}
-use Rattle.conjunction.specs.Joining.{Ready, Conjoined, Sides, both, Advances, stopped, left, right, level}
-use Rattle.conjunction.proofs.Composing.{sound-of, ready-after, then-made, becomes}
-use Rattle.conjunction.proofs.Booleans.{asked-kid}
+use Rattle.walks.specs.Walking.{Ready, Stepped, Sides, both, Advances, stopped, left, right, level}
+use Rattle.walks.proofs.Composing.{sound-of, ready-after, then-made, becomes}
+use Rattle.walks.proofs.Walk.{Walk}
+use Rattle.walks.proofs.Booleans.{asked-kid}
 
 -- What is known of a side's cut as the code reads it: its own, or past each position at the last edge.
 abbrev pub CutRead : List ℤ → View → ℕ → ℕ → Type 0
@@ -50,18 +50,18 @@ CutRead cuts w j k = (j + 1 < w .count → k ≡ cutSeen cuts 0 w j) × (w .coun
 abbrev pub still : View → View → ℕ → ℕ → Bool → ℕ
 still a b i j more = cond more (suc ((a .count - i) + (b .count - j))) 0
 
-module _ (h : Head) (nodes children : List ℕ) (cuts : List ℤ) (memo : List ℕ) (a b : View) (v n : ℕ) where
+module _ {v n : ℕ} (W : Walk v n) (h : Head) (nodes children : List ℕ) (cuts : List ℤ) (memo : List ℕ) (a b : View) where
   abbrev t : Table
   t = tableOf h nodes children cuts
 
   abbrev f : Table → ℕ × ℕ → Table × ℕ
-  f s p = conj n s (p .0) (p .1)
+  f = W .f
 
   abbrev whole : Table × Pieces ℕ
   whole = walk f t (overlay (seen children cuts v a 0) (seen children cuts v b 0))
 
   abbrev pub want : Table × ℕ
-  want = both false n t v (seen children cuts v a 0) (seen children cuts v b 0)
+  want = both false f t v (seen children cuts v a 0) (seen children cuts v b 0)
 
   -- The next overlap is that of edges i and j; `len` edges are built.
   pub record At (u : Table) (out : built.Edges) (final : NodeId) (len i j : ℕ) : Type 0 where
@@ -82,7 +82,7 @@ module _ (h : Head) (nodes children : List ℕ) (cuts : List ℤ) (memo : List �
 
   -- What the loop keeps: while there is more, where it stands; else what is built, or that there is no room.
   pub record Loop (now : Head) (nodes′ children′ : List ℕ) (cuts′ : List ℤ) (index′ memo′ : List ℕ) (out : built.Edges) (final : NodeId) (len i j : ℕ) (ok more : Bool) : Type 0 where
-    pub ready : Ready now nodes′ children′ cuts′ index′ memo′
+    pub ready : Ready (W .note) now nodes′ children′ cuts′ index′ memo′
     pub stays : Stays h nodes children cuts now nodes′ children′ cuts′
     pub long : length memo′ ≡ length memo
     pub size : length (out .list) ≡ mostEdges
@@ -90,7 +90,7 @@ module _ (h : Head) (nodes children : List ℕ) (cuts : List ℤ) (memo : List �
     pub built-all : more ≡ false → ok ≡ true → Built (tableOf now nodes′ children′ cuts′) out len
     pub full : more ≡ false → ok ≡ false → Fits (room nodes) (length children) (want .0) → ⊥
 
-  module _ {index : List ℕ} (r : Ready h nodes children cuts index memo) (s : Sides t (h .edges) children cuts v n a b) (range : v < firstBoolean) where
+  module _ {index : List ℕ} (r : Ready (W .note) h nodes children cuts index memo) (s : Sides t (h .edges) children cuts v n a b) (range : v < firstBoolean) where
     pub loop-starts : (out : built.Edges) → length (out .list) ≡ mostEdges → (final : NodeId) → Loop h nodes children cuts index memo out final 0 0 0 true true
     loop-starts out size final = record {
       ready = r;
@@ -131,7 +131,7 @@ module _ (h : Head) (nodes children : List ℕ) (cuts : List ℤ) (memo : List �
           )
 
           module _ {k q : ℕ} (rk : CutRead cuts₁ a i k) (rq : CutRead cuts₁ b j q) {m : Made} {nodes₂ children₂ : List ℕ} {cuts₂ : List ℤ} {index₂ memo₂ : List ℕ}
-              (d : Conjoined now (conj n u x y) m nodes₁ children₁ cuts₁ memo₁ nodes₂ children₂ cuts₂ index₂ memo₂) {slot₀ : ℕ}
+              (d : Stepped (W .note) now (f u (x, y)) m nodes₁ children₁ cuts₁ memo₁ nodes₂ children₂ cuts₂ index₂ memo₂) {slot₀ : ℕ}
               (sf : (0 < len → final .0 ≡ m .id .0 → slot₀ ≡ len - 1) × ((0 < len → final .0 ≡ m .id .0 → ⊥) → slot₀ ≡ len)) where
             abbrev pair : ℕ × ℕ
             pair = (childSeen children a i, childSeen children b j)
@@ -139,8 +139,8 @@ module _ (h : Head) (nodes children : List ℕ) (cuts : List ℤ) (memo : List �
             abbrev answer : Table × ℕ
             answer = f u pair
 
-            c : Conjoined now answer m nodes₁ children₁ cuts₁ memo₁ nodes₂ children₂ cuts₂ index₂ memo₂
-            c = becomes d (ap₂ (conj n u) ex ey)
+            c : Stepped (W .note) now answer m nodes₁ children₁ cuts₁ memo₁ nodes₂ children₂ cuts₂ index₂ memo₂
+            c = becomes d (ap₂ (λ (p q : ℕ). f u (p, q)) ex ey)
 
             abbrev u₂ : Table
             u₂ = tableOf (m .head) nodes₂ children₂ cuts₂
@@ -308,14 +308,14 @@ module _ (h : Head) (nodes children : List ℕ) (cuts : List ℤ) (memo : List �
             first-is w p g = ⊎-elim (λ y. ap first (as-cut w p g y)) (λ y. ap first (as-last w p g y)) (split (p + 1) (w .count))
 
             first-pair : f u (first (A i), first (B j)) ≡ answer
-            first-pair = ap₂ (conj n u) (first-is a i li) (first-is b j lj)
+            first-pair = ap₂ (λ (p q : ℕ). f u (p, q)) (first-is a i li) (first-is b j lj)
 
             same-want : want .0 ≡ (create-over v whole) .0
             unfolding both walkIn
             same-want = refl
 
             no-child : m .ok ≡ false → Fits (room nodes) (length children) (want .0) → ⊥
-            no-child bad y = full-child f t (suc v) (λ p. Child t (suc v) (p .0) × Child t (suc v) (p .1)) (λ p α. value t α (p .0) && value t α (p .1)) (conj-made n t (suc v) (s .enough)) whole u (sound-of (l .ready .lent)) (continued (r .lent) (l .stays))
+            no-child bad y = full-child f t (suc v) (λ p. Child t (suc v) (p .0) × Child t (suc v) (p .1)) (W .m t) (W .made (s .enough) t (sound-of (r .lent))) whole u (sound-of (l .ready .lent)) (continued (r .lent) (l .stays))
                 (childIn out) (cutIn out) len (A i) (B j) kids-over (here .going) v (room nodes) (length children)
                 (λ z. c .outcome .full bad (moved-fits (subst (λ (w : Table × ℕ). Fits (room nodes) (length children) (w .0)) first-pair z))) (subst (Fits (room nodes) (length children)) same-want y)
               where
@@ -370,7 +370,7 @@ module _ (h : Head) (nodes children : List ℕ) (cuts : List ℤ) (memo : List �
                 go false = omega arith
 
       -- What is done so far.
-      pub so-far : Conjoined h (u, 0) (record { ok = true; id = record { 0 = 0 }; head = now }) nodes children cuts memo nodes₁ children₁ cuts₁ index₁ memo₁
+      pub so-far : Stepped (W .note) h (u, 0) (record { ok = true; id = record { 0 = 0 }; head = now }) nodes children cuts memo nodes₁ children₁ cuts₁ index₁ memo₁
       so-far = record {
         outcome = record { lent = l .ready .lent; stays = l .stays; table = λ e. refl; id = λ e. refl; full = λ e. absurd (clash e refl) };
         long = l .long;
@@ -379,7 +379,7 @@ module _ (h : Head) (nodes children : List ℕ) (cuts : List ℤ) (memo : List �
 
       -- The loop is left.
       module _ (off : more ≡ false) where
-        pub merged-no : ok ≡ false → (id : NodeId) → Conjoined h want (record { ok = false; id = id; head = now }) nodes children cuts memo nodes₁ children₁ cuts₁ index₁ memo₁
+        pub merged-no : ok ≡ false → (id : NodeId) → Stepped (W .note) h want (record { ok = false; id = id; head = now }) nodes children cuts memo nodes₁ children₁ cuts₁ index₁ memo₁
         merged-no bad id = record {
           outcome = record { lent = l .ready .lent; stays = l .stays; table = λ e. absurd (clash refl e); id = λ e. absurd (clash refl e); full = λ e. l .full off bad };
           long = l .long;
@@ -393,8 +393,8 @@ module _ (h : Head) (nodes children : List ℕ) (cuts : List ℤ) (memo : List �
           abbrev closed : built.Edges
           closed = record { list = out .list; len = len }
 
-          walk-made : Walked t (suc v) (λ p α. value t α (p .0) && value t α (p .1)) (overlay (seen children cuts v a 0) (seen children cuts v b 0)) whole
-          walk-made = walked f t (suc v) (λ p. Child t (suc v) (p .0) × Child t (suc v) (p .1)) (λ p α. value t α (p .0) && value t α (p .1)) (conj-made n t (suc v) (s .enough)) t (sound-of (r .lent)) same _
+          walk-made : Walked t (suc v) (W .m t) (overlay (seen children cuts v a 0) (seen children cuts v b 0)) whole
+          walk-made = walked f t (suc v) (λ p. Child t (suc v) (p .0) × Child t (suc v) (p .1)) (W .m t) (W .made (s .enough) t (sound-of (r .lent))) t (sound-of (r .lent)) same _
               (each-overlay (Child t (suc v)) (Child t (suc v)) (seen children cuts v a 0) (seen children cuts v b 0) (s .left-kids) (s .right-kids))
 
           pub can-close : Buildable u v closed
@@ -409,5 +409,5 @@ module _ (h : Head) (nodes children : List ℕ) (cuts : List ℤ) (memo : List �
           unfolding both walkIn
           wanted = ap₂ (λ (x : Table) (p : Pieces ℕ). settle x v p) (done .table) (done .pieces)
 
-          pub closed-it : {o : Made} {nodes₂ children₂ : List ℕ} {cuts₂ : List ℤ} {index₂ : List ℕ} → Outcome now (settle u v (piecesOf closed)) o nodes₁ children₁ cuts₁ nodes₂ children₂ cuts₂ index₂ → Conjoined h want o nodes children cuts memo nodes₂ children₂ cuts₂ index₂ memo₁
-          closed-it o = becomes (then-made r so-far o) wanted
+          pub closed-it : {o : Made} {nodes₂ children₂ : List ℕ} {cuts₂ : List ℤ} {index₂ : List ℕ} → Outcome now (settle u v (piecesOf closed)) o nodes₁ children₁ cuts₁ nodes₂ children₂ cuts₂ index₂ → Stepped (W .note) h want o nodes children cuts memo nodes₂ children₂ cuts₂ index₂ memo₁
+          closed-it o = becomes (then-made r so-far (W .grows) o) wanted

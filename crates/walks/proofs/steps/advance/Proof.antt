@@ -1,11 +1,11 @@
--- `pairs::advance` meets its contract. Assumes nothing.
+-- `steps::advance` meets its contract. Assumes nothing.
 use mathlib.Core.Path.{_≡_}
 use Prim.Native.Nat.{ℕ}
 use native.Mathlib.Omega.{arith}
 use borrow.Author.Tests.{not-true, not-false}
-use Rattle.conjunction.specs.Joining.{stopped, left, right, level}
-use Rattle.conjunction.proofs.pairs.advance.Statement.{statement}
-use Rattle.conjunction.proofs.pairs.advance.Tie as tie
+use Rattle.walks.specs.Walking.{stopped, left, right, level}
+use Rattle.walks.proofs.steps.advance.Statement.{statement}
+use Rattle.walks.proofs.steps.advance.Tie as tie
 
 returns : tie.Need-returns
 returns c = stopped (λ q. let z : _≡_ {A = ℕ} 0 1 = cc (q, not-true (c .before .args .ok) (c .if1 .taken)) in absurd (omega arith))

@@ -1,10 +1,10 @@
--- `pairs::edge_of` meets its contract. Assumes nothing.
+-- `steps::edge_of` meets its contract. Assumes nothing.
 use mathlib.Core.Path.{sym, ap}
 use mathlib.Core.Bool.{Bool, cond}
 use Prim.Native.Nat.{_-_}
 use borrow.Author.Needs.{needs}
-use Rattle.conjunction.proofs.pairs.edge_of.Statement.{statement}
-use Rattle.conjunction.proofs.pairs.edge_of.Tie as tie
+use Rattle.walks.proofs.steps.edge_of.Statement.{statement}
+use Rattle.walks.proofs.steps.edge_of.Tie as tie
 
 sub-result : tie.Need-sub-result
 sub-result c = search needs

@@ -1,11 +1,10 @@
 -- `memo::recall` meets its contract. Assumes nothing.
-use mathlib.Core.Path.{_≡_}
+use mathlib.Core.Path.{_≡_, refl}
 use Prim.Native.Nat.{ℕ}
 use native.Mathlib.Omega.{arith}
-use Rattle.conjunction.proofs.Recalled.{memo-hit}
 use borrow.Author.Needs.{needs}
-use Rattle.conjunction.proofs.memo.recall.Statement.{statement}
-use Rattle.conjunction.proofs.memo.recall.Tie as tie
+use Rattle.walks.proofs.memo.recall.Statement.{statement}
+use Rattle.walks.proofs.memo.recall.Tie as tie
 
 slot-of-requires : tie.Need-slot-of-requires
 slot-of-requires c κs = search needs
@@ -38,13 +37,13 @@ shared-slice-read-t18 : tie.Need-shared-slice-read-t18
 shared-slice-read-t18 c = search needs
 
 returns : tie.Need-returns
-returns c = λ _ t m. memo-hit _ t (c .before .before .before .before .before .before .before .slot-of .result) _ _ m (c .before .before .before .before .before .before .before .before .before .pre .3) (c .before .before .before .before .if1 .taken) (c .before .if2 .taken)
+returns c = λ _. record { slot = c .before .before .before .before .before .before .before .slot-of .result; first = c .before .before .before .before .if1 .taken; second = c .before .if2 .taken; third = refl }
 
 returns-2 : tie.Need-returns-2
-returns-2 c = λ f t m. let z : _≡_ {A = ℕ} 0 1 = cc in absurd (omega arith)
+returns-2 c = λ f. let z : _≡_ {A = ℕ} 0 1 = cc in absurd (omega arith)
 
 returns-3 : tie.Need-returns-3
-returns-3 c = λ f t m. let z : _≡_ {A = ℕ} 0 1 = cc in absurd (omega arith)
+returns-3 c = λ f. let z : _≡_ {A = ℕ} 0 1 = cc in absurd (omega arith)
 
 pub recall-spec : {M : Type 1} → statement M
 recall-spec =

@@ -1,10 +1,10 @@
 -- `memo::remember` meets its contract. Assumes nothing.
+use mathlib.Core.Path.{refl}
 use native.Mathlib.Omega.{arith}
 use lib.ListN.{length-set}
-use Rattle.conjunction.proofs.Recalled.{length-written, memo-put}
 use borrow.Author.Needs.{needs}
-use Rattle.conjunction.proofs.memo.remember.Statement.{statement}
-use Rattle.conjunction.proofs.memo.remember.Tie as tie
+use Rattle.walks.proofs.memo.remember.Statement.{statement}
+use Rattle.walks.proofs.memo.remember.Tie as tie
 
 slot-of-requires : tie.Need-slot-of-requires
 slot-of-requires c κs = search needs
@@ -40,7 +40,7 @@ same-length : tie.Need-same-length
 same-length c = search needs
 
 returns : tie.Need-returns
-returns c = (length-written (c .before .before .args .memo .now) (c .slot-of .result) (c .before .before .args .x .0) (c .before .before .args .y .0) (c .before .before .args .id .0), memo-put (c .before .before .args .memo .now) (c .slot-of .result) (c .before .before .args .x .0) (c .before .before .args .y .0) (c .before .before .args .id .0) (omega (arith, (c .slot-of .ensures), (c .before .before .pre .2))))
+returns c = record { slot = c .slot-of .result; inside = omega (arith, (c .slot-of .ensures), (c .before .before .pre .2)); words = refl }
 
 pub remember-spec : {M : Type 1} → statement M
 remember-spec =

@@ -13,7 +13,6 @@ use Rattle.diagram.specs.Sound.{Child}
 use Rattle.diagram.proofs.Continuing.{continues-child}
 use Rattle.algebra.specs.Overlay.{merge}
 use Rattle.algebra.specs.Making.{settle}
-use Rattle.algebra.specs.Conjunction.{conj}
 use Rattle.algebra.proofs.Overlays.{reduced-merge, each-merge}
 use Rattle.views.specs.declared.View.{View}
 use Rattle.views.specs.Seeing.{Asked, Inside, childSeen, seen}
@@ -24,50 +23,51 @@ use Rattle.making.specs.declared.nodes.Made.{Made}
 use Rattle.making.specs.Building.{Building, piecesOf}
 use Rattle.making.specs.Outcome.{Outcome, Buildable, tableOf}
 use Rattle.making.proofs.Kept.{edges-inside}
-use Rattle.conjunction.specs.Joining.{Ready, Conjoined, Sides, both}
-use Rattle.conjunction.proofs.Composing.{sound-of, grew, then, then-made, becomes, fails}
-use Rattle.conjunction.proofs.Halves.{half, half-inside, pairAt, pair-kids, first, second, high, low, both-halves, first-before, second-before, answer-kids}
+use Rattle.walks.specs.Walking.{Note, Ready, Stepped, Sides, both}
+use Rattle.walks.proofs.Composing.{sound-of, grew, then, then-made, becomes, fails}
+use Rattle.walks.proofs.Walk.{Walk}
+use Rattle.walks.proofs.Halves.{half, half-inside, pairAt, pair-kids, first, second, high, low, both-halves, first-before, second-before, answer-kids}
 
 -- A child of the sides may be asked about.
 pub asked-kid : (h : Head) (nodes children : List ℕ) (cuts : List ℤ) {v n c : ℕ} → variables < suc v + n → Child (tableOf h nodes children cuts) (suc v) c → Asked (tableOf h nodes children cuts) (h .used) n c
 asked-kid h nodes children cuts {c = c} e k = record { known = known-used nodes children cuts (h .used) c (k .0); ahead = omega (arith, k .1) }
 
 -- A view of old edges lies within the slices.
-pub inside-still : {h : Head} {nodes children : List ℕ} {cuts : List ℤ} {index memo : List ℕ} → Ready h nodes children cuts index memo → {w : View} → Inside (h .edges) w → {n : ℕ} → n ≡ length children → Inside n w
-inside-still {h} r {w} i {n} e = inside-wider (h .edges) n w (omega (arith, edges-inside (r .lent))) i
+pub inside-still : {P : Note} {h : Head} {nodes children : List ℕ} {cuts : List ℤ} {index memo : List ℕ} → Ready P h nodes children cuts index memo → {w : View} → Inside (h .edges) w → {n : ℕ} → n ≡ length children → Inside n w
+inside-still {h = h} r {w} i {n} e = inside-wider (h .edges) n w (omega (arith, edges-inside (r .lent))) i
 
-module _ {h : Head} {nodes children : List ℕ} {cuts : List ℤ} {index memo : List ℕ} (r : Ready h nodes children cuts index memo) {v n : ℕ} {a b : View} (g : firstBoolean ≤ v)
+module _ {v n : ℕ} (W : Walk v n) {h : Head} {nodes children : List ℕ} {cuts : List ℤ} {index memo : List ℕ} (r : Ready (W .note) h nodes children cuts index memo) {a b : View} (g : firstBoolean ≤ v)
     (s : Sides (tableOf h nodes children cuts) (h .edges) children cuts v n a b) (back : Bool) where
   abbrev t : Table
   t = tableOf h nodes children cuts
 
   abbrev P : Bool → ℕ × ℕ
-  P = pairAt (sound-of (r .lent)) g s
+  P = pairAt W (sound-of (r .lent)) g s
 
   abbrev x₁ : Table × ℕ
-  x₁ = first (sound-of (r .lent)) g s back
+  x₁ = first W (sound-of (r .lent)) g s back
 
   abbrev x₂ : Table × ℕ
-  x₂ = second (sound-of (r .lent)) g s back
+  x₂ = second W (sound-of (r .lent)) g s back
 
   abbrev whole : Table × ℕ
-  whole = both back n t v (seen children cuts v a 0) (seen children cuts v b 0)
+  whole = both back (W .f) t v (seen children cuts v a 0) (seen children cuts v b 0)
 
   pub half-of : (c : View) (low : Bool) {i x : ℕ} → x ≡ childSeen children c i → i ≡ half (c .count) low → x ≡ childSeen children c (half (c .count) low)
   half-of c low e q = e ∙ ap (childSeen children c) q
 
   pub first-asked : {x y : ℕ} → x ≡ (P back) .0 → y ≡ (P back) .1 → Asked t (h .used) n x × Asked t (h .used) n y
   first-asked {x} {y} ex ey =
-      let k = pair-kids (sound-of (r .lent)) g s back in
+      let k = pair-kids W (sound-of (r .lent)) g s back in
       (subst (Asked t (h .used) n) (sym ex) (asked-kid h nodes children cuts (s .enough) (k .0)), subst (Asked t (h .used) n) (sym ey) (asked-kid h nodes children cuts (s .enough) (k .1)))
 
   module _ {m : Made} {nodes′ children′ : List ℕ} {cuts′ : List ℤ} {index′ memo′ : List ℕ} {x y : ℕ} (ex : x ≡ (P back) .0) (ey : y ≡ (P back) .1)
-      (d : Conjoined h (conj n t x y) m nodes children cuts memo nodes′ children′ cuts′ index′ memo′) where
-    c : Conjoined h x₁ m nodes children cuts memo nodes′ children′ cuts′ index′ memo′
-    c = becomes d (ap₂ (conj n t) ex ey)
+      (d : Stepped (W .note) h (W .f t (x, y)) m nodes children cuts memo nodes′ children′ cuts′ index′ memo′) where
+    c : Stepped (W .note) h x₁ m nodes children cuts memo nodes′ children′ cuts′ index′ memo′
+    c = becomes d (ap₂ (λ (i j : ℕ). W .f t (i, j)) ex ey)
 
-    pub first-fails : m .ok ≡ false → Conjoined h whole m nodes children cuts memo nodes′ children′ cuts′ index′ memo′
-    first-fails bad = fails c bad (first-before (sound-of (r .lent)) g s back)
+    pub first-fails : m .ok ≡ false → Stepped (W .note) h whole m nodes children cuts memo nodes′ children′ cuts′ index′ memo′
+    first-fails bad = fails c bad (first-before W (sound-of (r .lent)) g s back)
 
     abbrev t′ : Table
     t′ = tableOf (m .head) nodes′ children′ cuts′
@@ -77,30 +77,30 @@ module _ {h : Head} {nodes children : List ℕ} {cuts : List ℤ} {index memo : 
 
     pub second-asked : {x′ y′ : ℕ} → x′ ≡ (P (not back)) .0 → y′ ≡ (P (not back)) .1 → Asked t′ (m .head .used) n x′ × Asked t′ (m .head .used) n y′
     second-asked {x′} {y′} ex′ ey′ =
-        let k = pair-kids (sound-of (r .lent)) g s (not back) in
+        let k = pair-kids W (sound-of (r .lent)) g s (not back) in
         (subst (Asked t′ (m .head .used) n) (sym ex′) (ask _ (k .0)), subst (Asked t′ (m .head .used) n) (sym ey′) (ask _ (k .1)))
       where
         ask : (i : ℕ) → Child t (suc v) i → Asked t′ (m .head .used) n i
         ask i j = asked-kid (m .head) nodes′ children′ cuts′ (s .enough) (continues-child (grew r c) (suc v) i j)
 
     module _ (good : m .ok ≡ true) {m′ : Made} {nodes″ children″ : List ℕ} {cuts″ : List ℤ} {index″ memo″ : List ℕ} {x′ y′ : ℕ} (ex′ : x′ ≡ (P (not back)) .0) (ey′ : y′ ≡ (P (not back)) .1)
-        (d′ : Conjoined (m .head) (conj n t′ x′ y′) m′ nodes′ children′ cuts′ memo′ nodes″ children″ cuts″ index″ memo″) where
-      both-steps : Conjoined h x₂ m′ nodes children cuts memo nodes″ children″ cuts″ index″ memo″
-      both-steps = then r c (becomes d′ (ap (λ (s : Table). conj n s x′ y′) (c .outcome .table good) ∙ ap₂ (conj n (x₁ .0)) ex′ ey′))
+        (d′ : Stepped (W .note) (m .head) (W .f t′ (x′, y′)) m′ nodes′ children′ cuts′ memo′ nodes″ children″ cuts″ index″ memo″) where
+      both-steps : Stepped (W .note) h x₂ m′ nodes children cuts memo nodes″ children″ cuts″ index″ memo″
+      both-steps = then r c (becomes d′ (ap (λ (s : Table). W .f s (x′, y′)) (c .outcome .table good) ∙ ap₂ (λ (i j : ℕ). W .f (x₁ .0) (i, j)) ex′ ey′))
 
-      pub second-fails : m′ .ok ≡ false → Conjoined h whole m′ nodes children cuts memo nodes″ children″ cuts″ index″ memo″
-      second-fails bad = fails both-steps bad (second-before (sound-of (r .lent)) g s back)
+      pub second-fails : m′ .ok ≡ false → Stepped (W .note) h whole m′ nodes children cuts memo nodes″ children″ cuts″ index″ memo″
+      second-fails bad = fails both-steps bad (second-before W (sound-of (r .lent)) g s back)
 
       module _ (good′ : m′ .ok ≡ true) {one two : ℕ} (e₁ : one ≡ m .id .0) (e₂ : two ≡ m′ .id .0) {es : built.Edges} (building : Building es)
-          (pieces : piecesOf es ≡ merge (cut (high (sound-of (r .lent)) g s back one two) 1 (last (low (sound-of (r .lent)) g s back one two)))) where
+          (pieces : piecesOf es ≡ merge (cut (high W (sound-of (r .lent)) g s back one two) 1 (last (low W (sound-of (r .lent)) g s back one two)))) where
         abbrev t″ : Table
         t″ = tableOf (m′ .head) nodes″ children″ cuts″
 
         abbrev answers : Pieces ℕ
-        answers = cut (high (sound-of (r .lent)) g s back (x₁ .1) (x₂ .1)) 1 (last (low (sound-of (r .lent)) g s back (x₁ .1) (x₂ .1)))
+        answers = cut (high W (sound-of (r .lent)) g s back (x₁ .1) (x₂ .1)) 1 (last (low W (sound-of (r .lent)) g s back (x₁ .1) (x₂ .1)))
 
         as-answers : piecesOf es ≡ merge answers
-        as-answers = pieces ∙ ap₂ (λ (i j : ℕ). merge (cut (high (sound-of (r .lent)) g s back i j) 1 (last (low (sound-of (r .lent)) g s back i j)))) (e₁ ∙ c .outcome .id good) (e₂ ∙ both-steps .outcome .id good′)
+        as-answers = pieces ∙ ap₂ (λ (i j : ℕ). merge (cut (high W (sound-of (r .lent)) g s back i j) 1 (last (low W (sound-of (r .lent)) g s back i j)))) (e₁ ∙ c .outcome .id good) (e₂ ∙ both-steps .outcome .id good′)
 
         rises : Rising 0 (topOf v) answers
         rises = rw (le-ltb v firstBoolean g) (omega arith, omega arith, omega arith)
@@ -110,11 +110,11 @@ module _ {h : Head} {nodes children : List ℕ} {cuts : List ℤ} {index memo : 
           building = building;
           known = s .known;
           reduced = subst (Reduced 0 (topOf v)) (sym as-answers) (reduced-merge 0 (topOf v) answers rises);
-          kids = subst (λ (u : Table). Each (Child u (suc v)) (piecesOf es)) (sym (both-steps .outcome .table good′)) (subst (Each (Child (x₂ .0) (suc v))) (sym as-answers) (each-merge (Child (x₂ .0) (suc v)) answers (answer-kids (sound-of (r .lent)) g s back)));
+          kids = subst (λ (u : Table). Each (Child u (suc v)) (piecesOf es)) (sym (both-steps .outcome .table good′)) (subst (Each (Child (x₂ .0) (suc v))) (sym as-answers) (each-merge (Child (x₂ .0) (suc v)) answers (answer-kids W (sound-of (r .lent)) g s back)));
         }
 
         wanted : settle t″ v (piecesOf es) ≡ whole
-        wanted = ap₂ (λ (u : Table) (p : Pieces ℕ). settle u v p) (both-steps .outcome .table good′) as-answers ∙ sym (both-halves (sound-of (r .lent)) g s back)
+        wanted = ap₂ (λ (u : Table) (p : Pieces ℕ). settle u v p) (both-steps .outcome .table good′) as-answers ∙ sym (both-halves W (sound-of (r .lent)) g s back)
 
-        pub built-it : {o : Made} {nodes‴ children‴ : List ℕ} {cuts‴ : List ℤ} {index‴ : List ℕ} → Outcome (m′ .head) (settle t″ v (piecesOf es)) o nodes″ children″ cuts″ nodes‴ children‴ cuts‴ index‴ → Conjoined h whole o nodes children cuts memo nodes‴ children‴ cuts‴ index‴ memo″
-        built-it o = becomes (then-made r both-steps o) wanted
+        pub built-it : {o : Made} {nodes‴ children‴ : List ℕ} {cuts‴ : List ℤ} {index‴ : List ℕ} → Outcome (m′ .head) (settle t″ v (piecesOf es)) o nodes″ children″ cuts″ nodes‴ children‴ cuts‴ index‴ → Stepped (W .note) h whole o nodes children cuts memo nodes‴ children‴ cuts‴ index‴ memo″
+        built-it o = becomes (then-made r both-steps (W .grows) o) wanted

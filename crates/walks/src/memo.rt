@@ -3,14 +3,18 @@ ghost use mathlib.Core.Path.{_≡_};
 ghost use mathlib.Core.Bool.{true};
 ghost use Prim.Native.Nat.{_*_, _≤_, _<_};
 ghost use lib.ListN.{length};
-ghost use Rattle.diagram.specs.Table.{Table};
 ghost use Rattle.table.specs.Layout.{mostNodes};
-ghost use Rattle.conjunction.specs.Recalling.{Entry, Memo};
-use super::opening::Settled;
+ghost use Rattle.walks.specs.Recalling.{Hit, Overwritten};
 use ids::NodeId;
 use table::index::mixed;
 use table::index::scaled;
 use table::words::wide;
+
+// An id, if it is settled.
+pub struct Settled {
+    pub done: bool,
+    pub id: NodeId,
+}
 
 // The slot of a pair.
 fn slot_of(x: NodeId, y: NodeId, rooms: usize) -> usize
@@ -22,8 +26,8 @@ fn slot_of(x: NodeId, y: NodeId, rooms: usize) -> usize
 
 // The memo's answer for a pair, if it has one.
 pub fn recall(memo: &[u32], rooms: usize, x: NodeId, y: NodeId) -> Settled
-    requires { ⌜ (1 ≤ rooms) × (rooms ≤ mostNodes) × (length (now memo) ≡ rooms * 3) × (1 ≤ x .0) ⌝ }
-    ensures { λ r. ⌜ (r .done ≡ true → (t : Table) → Memo (now (memo .entry)) t → Entry t (x .0) (y .0) (r .id .0)) ⌝ }
+    requires { ⌜ (1 ≤ rooms) × (rooms ≤ mostNodes) × (length (now memo) ≡ rooms * 3) ⌝ }
+    ensures { λ r. ⌜ (r .done ≡ true → Hit (now (memo .entry)) (x .0) (y .0) (r .id .0)) ⌝ }
 {
     let at = slot_of(x, y, rooms) * 3;
     if memo[at] == x.0 {
@@ -43,7 +47,7 @@ pub fn recall(memo: &[u32], rooms: usize, x: NodeId, y: NodeId) -> Settled
 // Writes the answer for a pair over whatever stood in its slot.
 pub fn remember(memo: &mut [u32], rooms: usize, x: NodeId, y: NodeId, id: NodeId)
     requires { ⌜ (1 ≤ rooms) × (rooms ≤ mostNodes) × (length (now memo) ≡ rooms * 3) ⌝ }
-    ensures { λ _. ⌜ (length (now (memo .exit)) ≡ length (now (memo .entry))) × ((t : Table) → Memo (now (memo .entry)) t → Entry t (x .0) (y .0) (id .0) → Memo (now (memo .exit)) t) ⌝ }
+    ensures { λ _. ⌜ Overwritten (now (memo .entry)) (x .0) (y .0) (id .0) (now (memo .exit)) ⌝ }
 {
     let at = slot_of(x, y, rooms) * 3;
     memo[at] = x.0;

@@ -1,0 +1,96 @@
+-- What a step down a lent table asks and leaves, whatever the operation. Assumes nothing.
+use mathlib.Core.Path.{_≡_}
+use mathlib.Core.Bool.{Bool, true, false}
+use mathlib.Core.List.{List}
+use Prim.Native.Nat.{ℕ, suc, _+_, _*_, _<_, _≤_}
+use lib.Dec.{ltb}
+use lib.ListN.{length, replicate}
+use lib.IntN.{ℤ}
+use Rattle.ids.specs.Id.{TRUE}
+use Rattle.diagram.specs.Pieces.{Pieces, Each, Rising}
+use Rattle.diagram.specs.Table.{variables, topOf, Table}
+use Rattle.diagram.specs.Room.{mostEdges}
+use Rattle.diagram.specs.Sound.{Child}
+use Rattle.algebra.specs.Overlay.{overlay}
+use Rattle.algebra.specs.Making.{create-node}
+use Rattle.algebra.specs.Conjunction.{walkIn, create-over}
+use Rattle.table.specs.Layout.{room}
+use Rattle.making.specs.declared.edges.Edges as built
+use Rattle.making.specs.declared.nodes.Head.{Head}
+use Rattle.making.specs.declared.nodes.Made.{Made}
+use Rattle.making.specs.Building.{Building, piecesOf}
+use Rattle.making.specs.Outcome.{Lent, Outcome, Untouched, TakenBack, tableOf}
+use Rattle.views.specs.declared.View.{View}
+use Rattle.views.specs.Seeing.{beyond, seen, Inside}
+use Rattle.walks.specs.Recalling.{Memo, Overwritten}
+
+-- What an entry x, y, z of an operation's memo says of a table.
+abbrev pub Note : Type 1
+Note = Table → ℕ → ℕ → ℕ → Type 0
+
+-- A lent table with its memo.
+pub record Ready (P : Note) (h : Head) (nodes children : List ℕ) (cuts : List ℤ) (index memo : List ℕ) : Type 0 where
+  pub lent : Lent h nodes children cuts index
+  pub long : length memo ≡ room nodes * 3
+  pub recalled : Memo (P (tableOf h nodes children cuts)) memo
+
+-- The outcome of a step, and that the memo is still true.
+pub record Stepped (P : Note) (h : Head) (want : Table × ℕ) (r : Made) (nodes children : List ℕ) (cuts : List ℤ) (memo nodes′ children′ : List ℕ) (cuts′ : List ℤ) (index′ memo′ : List ℕ) : Type 0 where
+  pub outcome : Outcome h want r nodes children cuts nodes′ children′ cuts′ index′
+  pub long : length memo′ ≡ length memo
+  pub recalled : Memo (P (tableOf (r .head) nodes′ children′ cuts′)) memo′
+
+-- Two sides at variable v, which one of them tests or both do: n is more than the variables ahead of their children.
+pub record Sides (t : Table) (e : ℕ) (children : List ℕ) (cuts : List ℤ) (v n : ℕ) (a b : View) : Type 0 where
+  pub known : v < variables
+  pub enough : variables < suc v + n
+  pub tested : 2 < a .count + b .count
+  pub left : Inside e a
+  pub right : Inside e b
+  pub left-rises : Rising 0 (topOf v) (seen children cuts v a 0)
+  pub right-rises : Rising 0 (topOf v) (seen children cuts v b 0)
+  pub left-kids : Each (Child t (suc v)) (seen children cuts v a 0)
+  pub right-kids : Each (Child t (suc v)) (seen children cuts v b 0)
+
+-- The node of variable v over the overlap of two sides, an operation being done on each pair of children, in one of the two orders,
+unfoldable pub both : Bool → (Table → ℕ × ℕ → Table × ℕ) → Table → ℕ → Pieces ℕ → Pieces ℕ → Table × ℕ
+both back f t v e g = create-over v (walkIn back f t (overlay e g))
+
+-- and over one side.
+unfoldable pub over : Bool → (Table → ℕ → Table × ℕ) → Table → ℕ → Pieces ℕ → Table × ℕ
+over back f t v e = create-over v (walkIn back f t e)
+
+-- One overlap of the edge merge, its edge going into a slot: no slot or no room; or the edge up to the nearer of two cuts, whose side
+-- goes on, or both, until both are at their last edges. The answer: whether it is well, whether there is more, the slot, the cut, and by
+-- how much each side goes on.
+pub data Advances (ok : Bool) (slot k l : ℕ) : Bool → Bool → ℕ → ℕ → ℕ → ℕ → Type 0 where
+  stopped : (ok ≡ true → mostEdges ≤ slot) → Advances ok slot k l false false 0 0 0 0
+  left : ok ≡ true → slot < mostEdges → k < l → Advances ok slot k l true true slot k 1 0
+  right : ok ≡ true → slot < mostEdges → l < k → Advances ok slot k l true true slot l 0 1
+  level : ok ≡ true → slot < mostEdges → k ≡ l → Advances ok slot k l true (ltb k beyond) slot k 1 1
+
+-- Edges over which a node of variable u can be made in the table t, once they are merged.
+pub record Mergeable (t : Table) (u : ℕ) (es : built.Edges) : Type 0 where
+  pub building : Building es
+  pub known : u < variables
+  pub rises : Rising 0 (topOf u) (piecesOf es)
+  pub kids : Each (Child t (suc u)) (piecesOf es)
+
+-- The node of variable u over these edges, which is noted under x; or nothing, where it is not to be made.
+pub record NodeOver (ok : Bool) (h : Head) (x u : ℕ) (es : built.Edges) (nodes children : List ℕ) (cuts : List ℤ) (index memo : List ℕ) (r : Made) (nodes′ children′ : List ℕ) (cuts′ : List ℤ) (index′ memo′ : List ℕ) : Type 0 where
+  pub nothing : ok ≡ false → (r .ok ≡ false) × (r .head ≡ h) × Untouched nodes children cuts index nodes′ children′ cuts′ index′ × (memo′ ≡ memo)
+  pub made : ok ≡ true → Outcome h (create-node (tableOf h nodes children cuts) u (piecesOf es)) r nodes children cuts nodes′ children′ cuts′ index′
+  pub noted : ok ≡ true → r .ok ≡ true → Overwritten memo x TRUE (r .id .0) memo′
+  pub not-noted : ok ≡ true → r .ok ≡ false → memo′ ≡ memo
+
+-- What is left of what was made: all of it; or, where there was no room, nothing after the first `used` nodes. The memo is all zero.
+pub record Finishes (used : ℕ) (m : Made) (nodes children : List ℕ) (cuts : List ℤ) (index memo : List ℕ) (r : Made) (nodes′ children′ : List ℕ) (cuts′ : List ℤ) (index′ memo′ : List ℕ) : Type 0 where
+  pub kept : m .ok ≡ true → (r ≡ m) × Untouched nodes children cuts index nodes′ children′ cuts′ index′
+  pub taken : m .ok ≡ false → (r .ok ≡ false) × TakenBack used (m .head) nodes children cuts (r .head) nodes′ children′ cuts′ index′
+  pub zeroed : memo′ ≡ replicate (length memo) 0
+
+-- What a whole operation leaves: its outcome, nothing else where there was no room, and a memo of zeros.
+pub record Worked (h : Head) (want : Table × ℕ) (r : Made) (nodes children : List ℕ) (cuts : List ℤ) (index memo nodes′ children′ : List ℕ) (cuts′ : List ℤ) (index′ memo′ : List ℕ) : Type 0 where
+  pub outcome : Outcome h want r nodes children cuts nodes′ children′ cuts′ index′
+  pub untouched : r .ok ≡ false → Untouched nodes children cuts index nodes′ children′ cuts′ index′
+  pub zeroed : memo′ ≡ replicate (length memo) 0

@@ -1,0 +1,47 @@
+// The node over what the children of a node became.
+ghost use mathlib.Core.Path.{_≡_};
+ghost use mathlib.Core.Bool.{true};
+ghost use Prim.Native.Nat.{_*_};
+ghost use lib.ListN.{length};
+ghost use Rattle.table.specs.Layout.{room};
+ghost use Rattle.making.specs.Outcome.{Lent, tableOf};
+ghost use Rattle.walks.specs.Walking.{Mergeable, NodeOver};
+use super::memo::remember;
+use ids::NodeId;
+use making::edges::Edges;
+use making::edges::merged;
+use making::nodes::Head;
+use making::nodes::Made;
+use making::nodes::create_node;
+
+// The node of variable u over these edges, merged, remembered as what x became; or that a child had no room.
+pub fn node_over(
+    nodes: &mut [u32],
+    children: &mut [u32],
+    cuts: &mut [i64],
+    index: &mut [u32],
+    memo: &mut [u32],
+    head: Head,
+    ok: bool,
+    x: NodeId,
+    u: usize,
+    es: Edges,
+) -> Made
+    requires { ⌜ (Lent head (now nodes) (now children) (now cuts) (now index)) × (length (now memo) ≡ room (now nodes) * 3) × (ok ≡ true → Mergeable (tableOf head (now nodes) (now children) (now cuts)) u es) ⌝ }
+    ensures { λ r. ⌜ NodeOver ok head (x .0) u es (now (nodes .entry)) (now (children .entry)) (now (cuts .entry)) (now (index .entry)) (now (memo .entry)) r (now (nodes .exit)) (now (children .exit)) (now (cuts .exit)) (now (index .exit)) (now (memo .exit)) ⌝ }
+{
+    if !ok {
+        return Made {
+            ok: false,
+            id: NodeId::FALSE,
+            head,
+        };
+    }
+    let rooms = nodes.len() / 4;
+    let m = create_node(nodes, children, cuts, index, head, u, merged(es));
+    if m.ok {
+        let id = m.id;
+        remember(memo, rooms, x, NodeId::TRUE, id);
+    }
+    m
+}
