@@ -1,0 +1,6 @@
+-- The edges of narrowing and widening. Assumes nothing.
+pub mod Zones
+pub mod Passing
+pub mod Copying
+pub mod Closing
+pub mod Widening

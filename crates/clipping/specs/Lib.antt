@@ -1,0 +1,2 @@
+-- What the edges of widening are. Assumes nothing.
+pub mod Clipping
