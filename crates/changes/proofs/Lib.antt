@@ -1,0 +1,7 @@
+-- The laws behind restriction, narrowing and widening, lowest first. Assumes nothing.
+pub mod Looking
+pub mod Bottom
+pub mod Down
+pub mod Ways
+pub mod Bounds
+pub mod Restricting

@@ -1,0 +1,2 @@
+-- Restriction, narrowing and widening on a lent table. Assumes nothing.
+pub mod Changed

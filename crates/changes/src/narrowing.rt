@@ -1,0 +1,164 @@
+// Narrowing for one range variable. Document 01, step 8; `simplify_python_versions` of the source.
+ghost use mathlib.Core.Path.{_≡_};
+ghost use mathlib.Core.Bool.{true, false};
+ghost use Prim.Native.Nat.{_*_, _≤_, _<_};
+ghost use lib.ListN.{length};
+ghost use Rattle.ids.specs.Index.{KnownTo};
+ghost use Rattle.ranges.specs.Line.{top};
+ghost use Rattle.diagram.specs.Table.{firstBoolean, variables};
+ghost use Rattle.diagram.specs.Cofactor.{edgesOf};
+ghost use Rattle.algebra.specs.Making.{create-node};
+ghost use Rattle.algebra.specs.Changing.{isBefore, narrow as narrows};
+ghost use Rattle.table.specs.Layout.{room};
+ghost use Rattle.making.specs.Outcome.{Lent, Outcome, tableOf};
+ghost use Rattle.views.specs.Seeing.{Asked};
+ghost use Rattle.walks.specs.Walking.{Ready, Stepped, Worked};
+ghost use Rattle.changes.specs.Changed.{Changed, changed, narrowing};
+use super::sights::both_open;
+use super::sights::is_before;
+use super::sights::view_at;
+use ids::NodeId;
+use making::edges::Edge;
+use making::edges::Edges;
+use making::nodes::Head;
+use making::nodes::Made;
+use making::nodes::create_node;
+use ranges::bounds::Bound;
+use ranges::spans::Range;
+use table::fresh::zero_words;
+use table::limits::VARIABLES;
+use views::child;
+use views::variable;
+use views::view_of;
+use walks::finish::finish;
+use walks::memo::recall;
+use walks::nodes::node_over;
+use walks::steps::cut_of;
+use walks::steps::left_after;
+use walks::steps::turn;
+
+// "Terminals, or both ends open: the id unchanged."
+pub fn narrow(
+    nodes: &mut [u32],
+    children: &mut [u32],
+    cuts: &mut [i64],
+    index: &mut [u32],
+    memo: &mut [u32],
+    head: Head,
+    id: NodeId,
+    v: usize,
+    lower: Bound,
+    upper: Bound,
+) -> Made
+    requires { ⌜ (Lent head (now nodes) (now children) (now cuts) (now index)) × (length (now memo) ≡ room (now nodes) * 3) × (KnownTo (head .used) (id .0)) × (v < firstBoolean) ⌝ }
+    ensures { λ r. ⌜ Worked head (narrows (tableOf head (now (nodes .entry)) (now (children .entry)) (now (cuts .entry))) v lower upper (id .0)) r (now (nodes .entry)) (now (children .entry)) (now (cuts .entry)) (now (index .entry)) (now (memo .entry)) (now (nodes .exit)) (now (children .exit)) (now (cuts .exit)) (now (index .exit)) (now (memo .exit)) ⌝ }
+{
+    zero_words(memo);
+    if both_open(lower, upper) {
+        return Made { ok: true, id, head };
+    }
+    let range = Range::from_bounds(lower, upper);
+    let m = narrow_from(
+        nodes,
+        children,
+        cuts,
+        index,
+        memo,
+        head,
+        id,
+        v,
+        range,
+        VARIABLES + 1,
+    );
+    finish(nodes, children, cuts, index, memo, m, head.used)
+}
+
+// At the variable: "the answer at a place is the old answer at the nearest place inside the bounds"; with empty bounds FALSE, for both
+// polarities. Terminals and later variables stay.
+fn narrow_here(
+    nodes: &mut [u32],
+    children: &mut [u32],
+    cuts: &mut [i64],
+    index: &mut [u32],
+    head: Head,
+    id: NodeId,
+    v: usize,
+    range: Range,
+) -> Made
+    requires { ⌜ (Lent head (now nodes) (now children) (now cuts) (now index)) × (KnownTo (head .used) (id .0)) × (isBefore (tableOf head (now nodes) (now children) (now cuts)) v (id .0) ≡ false) × (v < firstBoolean) × (range .first ≤ top) × (range .last ≤ top) ⌝ }
+    ensures { λ r. ⌜ Outcome head (create-node (tableOf head (now (nodes .entry)) (now (children .entry)) (now (cuts .entry))) v (narrowing range (edgesOf (tableOf head (now (nodes .entry)) (now (children .entry)) (now (cuts .entry))) v (id .0)))) r (now (nodes .entry)) (now (children .entry)) (now (cuts .entry)) (now (nodes .exit)) (now (children .exit)) (now (cuts .exit)) (now (index .exit)) ⌝ }
+{
+    let a = view_at(nodes, children, cuts, head.used, id, v);
+    if a.count == 1 {
+        return Made { ok: true, id, head };
+    }
+    if range.is_empty() {
+        return Made {
+            ok: true,
+            id: NodeId::FALSE,
+            head,
+        };
+    }
+    let es = clipping::narrowed(children, cuts, a, range);
+    create_node(nodes, children, cuts, index, head, v, es)
+}
+
+// It calls itself on each child, "ranges left to right", and `ahead`, more than the variables that are still ahead, falls.
+pub fn narrow_from(
+    nodes: &mut [u32],
+    children: &mut [u32],
+    cuts: &mut [i64],
+    index: &mut [u32],
+    memo: &mut [u32],
+    head: Head,
+    id: NodeId,
+    v: usize,
+    range: Range,
+    ahead: usize,
+) -> Made
+    requires { ⌜ (Ready (Changed v (narrowing range)) head (now nodes) (now children) (now cuts) (now index) (now memo)) × (Asked (tableOf head (now nodes) (now children) (now cuts)) (head .used) ahead (id .0)) × (v < firstBoolean) × (range .first ≤ top) × (range .last ≤ top) ⌝ }
+    ensures { λ r. ⌜ Stepped (Changed v (narrowing range)) head (changed v (narrowing range) (tableOf head (now (nodes .entry)) (now (children .entry)) (now (cuts .entry))) (id .0)) r (now (nodes .entry)) (now (children .entry)) (now (cuts .entry)) (now (memo .entry)) (now (nodes .exit)) (now (children .exit)) (now (cuts .exit)) (now (index .exit)) (now (memo .exit)) ⌝ }
+{
+    if !is_before(nodes, children, cuts, head.used, id, v) {
+        return narrow_here(nodes, children, cuts, index, head, id, v, range);
+    }
+    let s = recall(memo, nodes.len() / 4, id, NodeId::TRUE);
+    if s.done {
+        let id = s.id;
+        return Made { ok: true, id, head };
+    }
+    let u = variable(nodes, children, cuts, head.used, id);
+    let a = view_of(nodes, children, cuts, head.used, id, u);
+    let mut out = Edges::new();
+    let mut now = head;
+    let mut ok = true;
+    let mut left = a.count;
+    while 0 < left {
+        let i = turn(u, left, a.count);
+        let k = cut_of(cuts, a, u, i);
+        let x = child(children, a, i);
+        let m = narrow_from(
+            nodes,
+            children,
+            cuts,
+            index,
+            memo,
+            now,
+            x,
+            v,
+            range,
+            ahead - 1,
+        );
+        let to = m.id;
+        out.list[i] = Edge {
+            cut: k,
+            child: to,
+            spare: 0,
+        };
+        now = m.head;
+        ok = m.ok;
+        left = left_after(ok, left);
+    }
+    out.len = a.count;
+    node_over(nodes, children, cuts, index, memo, now, ok, id, u, out)
+}

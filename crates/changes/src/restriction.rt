@@ -1,0 +1,154 @@
+// Restriction of one boolean to a value. Document 01, step 7; `restrict` of the source, whose closure is the variable and the value.
+ghost use mathlib.Core.Path.{_≡_};
+ghost use mathlib.Core.Bool.{cond};
+ghost use Prim.Native.Nat.{_*_, _≤_, _<_};
+ghost use lib.ListN.{length};
+ghost use Rattle.ids.specs.Index.{KnownTo};
+ghost use Rattle.diagram.specs.Pieces.{select};
+ghost use Rattle.diagram.specs.Table.{firstBoolean, variables};
+ghost use Rattle.diagram.specs.Cofactor.{edgesOf};
+ghost use Rattle.algebra.specs.Changing.{restrict as restriction};
+ghost use Rattle.table.specs.Held.{held};
+ghost use Rattle.table.specs.Layout.{room};
+ghost use Rattle.making.specs.Outcome.{Lent, tableOf};
+ghost use Rattle.views.specs.Seeing.{Readable, Asked};
+ghost use Rattle.walks.specs.Walking.{Ready, Stepped, Worked};
+ghost use Rattle.changes.specs.Changed.{Changed, changed, restricting};
+use super::sights::is_before;
+use super::sights::view_at;
+use ids::NodeId;
+use making::edges::Edge;
+use making::edges::Edges;
+use making::nodes::Head;
+use making::nodes::Made;
+use table::fresh::zero_words;
+use table::limits::FIRST_BOOLEAN;
+use table::limits::VARIABLES;
+use views::child;
+use views::variable;
+use views::view_of;
+use walks::finish::finish;
+use walks::memo::recall;
+use walks::nodes::node_over;
+use walks::steps::cut_of;
+use walks::steps::edge_of;
+use walks::steps::left_after;
+use walks::steps::turn;
+
+// "Naming a range variable returns the id unchanged, as in the source."
+pub fn restrict(
+    nodes: &mut [u32],
+    children: &mut [u32],
+    cuts: &mut [i64],
+    index: &mut [u32],
+    memo: &mut [u32],
+    head: Head,
+    id: NodeId,
+    v: usize,
+    value: bool,
+) -> Made
+    requires { ⌜ (Lent head (now nodes) (now children) (now cuts) (now index)) × (length (now memo) ≡ room (now nodes) * 3) × (KnownTo (head .used) (id .0)) × (v < variables) ⌝ }
+    ensures { λ r. ⌜ Worked head (restriction (tableOf head (now (nodes .entry)) (now (children .entry)) (now (cuts .entry))) v value (id .0)) r (now (nodes .entry)) (now (children .entry)) (now (cuts .entry)) (now (index .entry)) (now (memo .entry)) (now (nodes .exit)) (now (children .exit)) (now (cuts .exit)) (now (index .exit)) (now (memo .exit)) ⌝ }
+{
+    zero_words(memo);
+    if v < FIRST_BOOLEAN {
+        return Made { ok: true, id, head };
+    }
+    let m = restrict_from(
+        nodes,
+        children,
+        cuts,
+        index,
+        memo,
+        head,
+        id,
+        v,
+        value,
+        VARIABLES + 1,
+    );
+    finish(nodes, children, cuts, index, memo, m, head.used)
+}
+
+// The edge of the value, of an id that tests no variable before v: no node is made.
+fn chosen(
+    nodes: &[u32],
+    children: &[u32],
+    cuts: &[i64],
+    used: usize,
+    id: NodeId,
+    v: usize,
+    value: bool,
+) -> NodeId
+    requires { ⌜ (Readable (now nodes) (now children) (now cuts) used) × (KnownTo used (id .0)) × (firstBoolean ≤ v) × (v < variables) ⌝ }
+    ensures { λ r. ⌜ r .0 ≡ select (edgesOf (held (now (nodes .entry)) (now (children .entry)) (now (cuts .entry)) used) v (id .0)) (cond value 0 1) ⌝ }
+{
+    let a = view_at(nodes, children, cuts, used, id, v);
+    let low = !value;
+    child(children, a, edge_of(a.count, low))
+}
+
+// "Restriction goes down one variable at a time": it calls itself on each child, ranges left to right and booleans low then high, and
+// `ahead`, more than the variables that are still ahead, falls.
+pub fn restrict_from(
+    nodes: &mut [u32],
+    children: &mut [u32],
+    cuts: &mut [i64],
+    index: &mut [u32],
+    memo: &mut [u32],
+    head: Head,
+    id: NodeId,
+    v: usize,
+    value: bool,
+    ahead: usize,
+) -> Made
+    requires { ⌜ (Ready (Changed v (restricting value)) head (now nodes) (now children) (now cuts) (now index) (now memo)) × (Asked (tableOf head (now nodes) (now children) (now cuts)) (head .used) ahead (id .0)) × (firstBoolean ≤ v) × (v < variables) ⌝ }
+    ensures { λ r. ⌜ Stepped (Changed v (restricting value)) head (changed v (restricting value) (tableOf head (now (nodes .entry)) (now (children .entry)) (now (cuts .entry))) (id .0)) r (now (nodes .entry)) (now (children .entry)) (now (cuts .entry)) (now (memo .entry)) (now (nodes .exit)) (now (children .exit)) (now (cuts .exit)) (now (index .exit)) (now (memo .exit)) ⌝ }
+{
+    if !is_before(nodes, children, cuts, head.used, id, v) {
+        let to = chosen(nodes, children, cuts, head.used, id, v, value);
+        return Made {
+            ok: true,
+            id: to,
+            head,
+        };
+    }
+    let s = recall(memo, nodes.len() / 4, id, NodeId::TRUE);
+    if s.done {
+        let id = s.id;
+        return Made { ok: true, id, head };
+    }
+    let u = variable(nodes, children, cuts, head.used, id);
+    let a = view_of(nodes, children, cuts, head.used, id, u);
+    let mut out = Edges::new();
+    let mut now = head;
+    let mut ok = true;
+    let mut left = a.count;
+    while 0 < left {
+        let i = turn(u, left, a.count);
+        let k = cut_of(cuts, a, u, i);
+        let x = child(children, a, i);
+        let m = restrict_from(
+            nodes,
+            children,
+            cuts,
+            index,
+            memo,
+            now,
+            x,
+            v,
+            value,
+            ahead - 1,
+        );
+        let to = m.id;
+        out.list[i] = Edge {
+            cut: k,
+            child: to,
+            spare: 0,
+        };
+        now = m.head;
+        ok = m.ok;
+        left = left_after(ok, left);
+    }
+    out.len = a.count;
+    node_over(nodes, children, cuts, index, memo, now, ok, id, u, out)
+}
