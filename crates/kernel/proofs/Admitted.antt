@@ -1,5 +1,5 @@
 -- What the proofs of the conditions' calls hand their facts to: what is found before any work, and each row. Assumes nothing.
-use mathlib.Core.Path.{_≡_, refl, _∙_, ap}
+use mathlib.Core.Path.{_≡_, refl, ap}
 use mathlib.Core.Bool.{Bool, true, false, cond}
 use mathlib.Core.List.{List, []}
 use Prim.Native.Nat.{ℕ}
@@ -21,7 +21,7 @@ use Rattle.making.specs.declared.nodes.Made.{Made}
 use Rattle.making.specs.Outcome.{Lent, Outcome, Untouched, tableOf}
 use Rattle.kernel.specs.Makes.{wrongVariable, noRoom, made-4, Conditions}
 use Rattle.kernel.specs.Admitting.{Admits, not-lent, not-kind, admitted}
-use Rattle.kernel.proofs.Handing.{leaves-it, check-refuses, no-room-it, done-it}
+use Rattle.kernel.proofs.Handing.{check-refuses, outcome-told}
 
 module _ {nodes children : List ℕ} {cuts : List ℤ} {index : List ℕ} where
   -- the check of a table gives one to work on
@@ -56,17 +56,7 @@ module _ (kind : Type 0) (want : Table → Table × ℕ) (nodes children : List 
         → Outcome h made r nodes children cuts nodes′ children′ cuts′ index′ × (r .ok ≡ false → Untouched nodes children cuts index nodes′ children′ cuts′ index′)
         → made ≡ want (tableOf h nodes children cuts) → (n ≡ cond (r .ok) done noRoom) × (id ≡ cond (r .ok) (r .id .0) FALSE)
         → Conditions nodes children cuts index kind want n id nodes′ children′ cuts′ index′
-    condition-answered {h} {made} {r} {n} {id} (l, p) (o, u) e q = go (r .ok) refl q
-      where
-        go : (b : Bool) → r .ok ≡ b → (n ≡ cond b done noRoom) × (id ≡ cond b (r .id .0) FALSE) → Conditions nodes children cuts index kind want n id nodes′ children′ cuts′ index′
-        go true y q =
-            let t = o .table y ∙ ap (λ (x : Table × ℕ). x .0) e in
-            let i = q .1 ∙ (o .id y ∙ ap (λ (x : Table × ℕ). x .1) e) in
-            let x = leaves-it nodes children cuts index nodes′ children′ cuts′ index′ (r .head .used) (l .allowed) (o .lent .allowed) (o .stays .long) (o .stays .wide) (o .lent .sound) t in
-            rw (q .0) (done-it _ _ kind want nodes children cuts index [] (l .allowed) (l .sound) tt p x i refl)
-        go false y q =
-            let z = u y in
-            rw (q .0, q .1) (no-room-it _ _ kind want nodes children cuts index [] (l .allowed) (l .sound) tt p (λ f. o .full y (rw e f)) (z .nodes-same) (z .children-same) (z .cuts-same) (z .index-same) refl)
+    condition-answered (l, p) (o, u) e q = outcome-told _ _ kind want nodes children cuts index [] (l .allowed) l tt p o u refl e q
 
 -- The code hands a variable on as a wide number, and a key as 32 bits.
 pub same-range : (t : Table) {w v : ℕ} (lower upper : Bound) → w ≡ v → from-range t w lower upper ≡ from-range t v lower upper

@@ -35,3 +35,7 @@ decides-second p (fails f) = fails (λ x. f (x .1))
 
 pub decides-first : {P Q : Type 0} {b : Bool} → b ≡ false → (P → ⊥) → Decides (P × Q) b
 decides-first e f = rw e (fails (λ x. f (x .0)))
+
+-- a call that asks no kind of variable has nothing to decide
+pub asks-none : Decides (Unit {0}) true
+asks-none = holds tt

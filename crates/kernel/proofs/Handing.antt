@@ -1,6 +1,6 @@
 -- What the proofs of the public calls hand their facts to: each row of an outcome from what the code has found. Assumes nothing.
-use mathlib.Core.Path.{_≡_, refl}
-use mathlib.Core.Bool.{Bool, false}
+use mathlib.Core.Path.{_≡_, refl, _∙_, ap}
+use mathlib.Core.Bool.{Bool, true, false, cond}
 use mathlib.Core.List.{List}
 use Prim.Native.Nat.{ℕ}
 use lib.ListN.{length, replicate}
@@ -13,8 +13,11 @@ use Rattle.table.specs.Layout.{room}
 use Rattle.table.specs.Lent.{SoundLent}
 use Rattle.table.specs.Held.{held}
 use Rattle.table.specs.Told.{done, Allowed, Checks, checked-1, checked-2, checked-0}
-use Rattle.kernel.specs.Makes.{noRoom, Leaves, Makes, made-1, made-2, made-6, made-0, BothKnown, Disjoints, disjoint-1, disjoint-2, disjoint-0}
+use Rattle.making.specs.declared.nodes.Head.{Head}
+use Rattle.making.specs.declared.nodes.Made.{Made}
+use Rattle.making.specs.Outcome.{Lent, Outcome, Untouched, tableOf}
 use Rattle.making.proofs.Taken.{cuts-as-long, index-as-long}
+use Rattle.kernel.specs.Makes.{noRoom, Leaves, Makes, made-1, made-2, made-6, made-0, BothKnown, Disjoints, disjoint-1, disjoint-2, disjoint-0}
 
 -- what a call leaves, from a table that is sound again in the same room
 pub leaves-it : {t : Table} (nodes children : List ℕ) (cuts : List ℤ) (index nodes′ children′ : List ℕ) (cuts′ : List ℤ) (index′ : List ℕ) (u : ℕ) → Allowed nodes children cuts index → Allowed nodes′ children′ cuts′ index′
@@ -41,6 +44,21 @@ module _ (lent : Type 0) (known : ℕ → Type 0) (kind : Type 0) (want : Table 
     pub done-it : {id : ℕ} {nodes′ children′ index′ memo′ : List ℕ} {cuts′ : List ℤ} → Leaves ((want (held nodes children cuts u)) .0) nodes children cuts index nodes′ children′ cuts′ index′
         → id ≡ (want (held nodes children cuts u)) .1 → memo′ ≡ replicate (length memo) 0 → Makes lent known kind want nodes children cuts index memo done id nodes′ children′ cuts′ index′ memo′
     done-it h e z = rw (e, z) (made-0 l u s a v _ _ _ _ h)
+
+  -- both, from what was made
+  module _ {h : Head} {made : Table × ℕ} {r : Made} {nodes′ children′ : List ℕ} {cuts′ : List ℤ} {index′ memo′ : List ℕ} (l : lent) (t : Lent h nodes children cuts index) (a : known (h .used)) (v : kind)
+      (o : Outcome h made r nodes children cuts nodes′ children′ cuts′ index′) (u : r .ok ≡ false → Untouched nodes children cuts index nodes′ children′ cuts′ index′) (z : memo′ ≡ replicate (length memo) 0)
+      (e : made ≡ want (tableOf h nodes children cuts)) where
+    pub outcome-told : {n id : ℕ} → (n ≡ cond (r .ok) done noRoom) × (id ≡ cond (r .ok) (r .id .0) FALSE) → Makes lent known kind want nodes children cuts index memo n id nodes′ children′ cuts′ index′ memo′
+    outcome-told {n} {id} q = go (r .ok) refl q
+      where
+        go : (b : Bool) → r .ok ≡ b → (n ≡ cond b done noRoom) × (id ≡ cond b (r .id .0) FALSE) → Makes lent known kind want nodes children cuts index memo n id nodes′ children′ cuts′ index′ memo′
+        go true y q =
+            let x = leaves-it nodes children cuts index nodes′ children′ cuts′ index′ (r .head .used) (t .allowed) (o .lent .allowed) (o .stays .long) (o .stays .wide) (o .lent .sound) (o .table y ∙ ap (λ (w : Table × ℕ). w .0) e) in
+            rw (q .0) (done-it l (t .sound) a v x (q .1 ∙ (o .id y ∙ ap (λ (w : Table × ℕ). w .1) e)) z)
+        go false y q =
+            let w = u y in
+            rw (q .0, q .1) (no-room-it l (t .sound) a v (λ f. o .full y (rw e f)) (w .nodes-same) (w .children-same) (w .cuts-same) (w .index-same) z)
 
 -- the same of disjointness
 module _ (nodes children : List ℕ) (cuts : List ℤ) (index : List ℕ) (x y : ℕ) where

@@ -4,4 +4,4 @@ pub mod Promises
 pub mod Handing
 pub mod Deciding
 pub mod Admitted
-pub mod Paired
+pub mod ByIds

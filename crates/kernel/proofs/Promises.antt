@@ -1,33 +1,38 @@
 -- What a reader of the demands looks for of the public calls: what the numbers 0 and 6 mean. Assumes nothing.
 use mathlib.Core.Path.{_≡_, refl, sym, _∙_, subst}
 use mathlib.Core.Bool.{Bool, true, false, _&&_, _||_}
-use mathlib.Core.Logic.{_↔_, inl, inr}
+use mathlib.Core.Logic.{_↔_, _⊎_, inl, inr, ⊎-elim}
 use mathlib.Core.List.{List}
 use Prim.Native.Nat.{ℕ, _≤_, _<_}
 use native.Mathlib.Omega.{arith}
 use lib.ListN.{length, replicate}
 use lib.IntN.{ℤ}
 use Rattle.ids.specs.Id.{FALSE}
+use Rattle.ids.specs.Index.{KnownTo}
 use Rattle.ranges.specs.Line.{Key}
-use Rattle.ranges.specs.Bounding.{Keyed, inside}
+use Rattle.ranges.specs.Bounding.{Keyed, inside, empty, nearest}
 use Rattle.ranges.specs.Comparing.{compares}
 use Rattle.ranges.specs.declared.bounds.Bound.{Bound}
 use Rattle.ranges.specs.declared.bounds.Comparison.{Comparison}
+use Rattle.ranges.proofs.Nearest.{place-nearest}
 use Rattle.diagram.specs.Table.{firstBoolean, variables, Table}
-use Rattle.diagram.specs.Sound.{Sound}
-use Rattle.diagram.specs.Reading.{Reading, says}
+use Rattle.diagram.specs.Sound.{Known, Sound, same}
+use Rattle.diagram.specs.Reading.{Reading, says, atPlace, switched}
 use Rattle.algebra.specs.Conditions.{from-range, comparison, from-bool}
 use Rattle.algebra.specs.Conjunction.{and, or}
+use Rattle.algebra.specs.Changing.{restrict, narrow, widen}
 use Rattle.algebra.specs.Answering.{Answers}
-use Rattle.algebra.proofs.Promises.{from-range-answers, comparison-answers, from-bool-answers, and-answers, or-answers, disjoint-exactly, fits-exactly}
+use Rattle.algebra.specs.Emptying.{StillChanges, Steady, EmptyAnswer}
+use Rattle.algebra.proofs.Emptied.{steady-or-changing}
+use Rattle.algebra.proofs.Promises.{from-range-answers, comparison-answers, from-bool-answers, and-answers, or-answers, disjoint-exactly, restrict-answers, restrict-range, narrow-answers, narrow-empty-answers, widen-answers, fits-exactly}
 use Rattle.table.specs.Layout.{room}
 use Rattle.table.specs.Lent.{SoundLent}
 use Rattle.table.specs.Held.{held}
 use Rattle.table.specs.Told.{done, Allowed}
 use Rattle.table.proofs.Once.{sound-once}
 use Rattle.table.proofs.Promises.{holds-a-sound-table, counts-what-is-held}
-use Rattle.kernel.specs.Makes.{Makes, made-1, made-2, made-3, made-4, made-6, made-0, BothKnown, FromRange, Compares, FromBool, Lending, Joins, Ands, Ors, Disjoints, disjoint-1, disjoint-2, disjoint-3, disjoint-0}
-use Rattle.kernel.specs.Meaning.{Answered, HasRoom, DoneOrNoRoom}
+use Rattle.kernel.specs.Makes.{Makes, made-1, made-2, made-3, made-4, made-6, made-0, BothKnown, FromRange, Compares, FromBool, Lending, WithMemo, Ands, Ors, Restricts, Narrows, Widens, Disjoints, disjoint-1, disjoint-2, disjoint-3, disjoint-0}
+use Rattle.kernel.specs.Meaning.{Answered, HasRoom, DoneOrNoRoom, EmptyAnswered, EmptyDoneOrNoRoom}
 use Rattle.kernel.proofs.Once.{leaves-fits, makes-once}
 
 -- An operation that is right: from every sound table that knows its ids it answers with m, which says of each reading yes or no.
@@ -63,6 +68,15 @@ module _ (lent : Type 0) (known : ℕ → Type 0) (kind : Type 0) (want : Table 
       inl (refl, subst (HasRoom m nodes children cuts) (sound-once nodes children cuts index u′ u s′ s) (fits-exactly _ _ _ (right-here u′ s′ a′ v′) (room nodes) (length children) .1 (leaves-fits h)))
 
 module _ (lent : Type 0) (known : ℕ → Type 0) (kind : Type 0) (want : Table → Table × ℕ) (nodes children : List ℕ) (cuts : List ℤ) (index : List ℕ) where
+  -- Number 0 is told where the checks 2 to 4 pass.
+  done-admitted : {k id : ℕ} {memo n c i z : List ℕ} {t : List ℤ} → Makes lent known kind want nodes children cuts index memo k id n c t i z → k ≡ done → (u : ℕ) × SoundLent nodes children cuts index u × known u × kind
+  done-admitted (made-1 f) e = absurd (omega arith)
+  done-admitted (made-2 l f) e = absurd (omega arith)
+  done-admitted (made-3 l u s f) e = absurd (omega arith)
+  done-admitted (made-4 l u s a f) e = absurd (omega arith)
+  done-admitted (made-6 l u s a v f) e = absurd (omega arith)
+  done-admitted (made-0 l u s a v _ _ _ _ h) e = (u, s, a, v)
+
   -- A refusal answers FALSE and leaves the table as it was found.
   pub refused-changes-nothing : {k id : ℕ} {memo n c i z : List ℕ} {t : List ℤ} → Makes lent known kind want nodes children cuts index memo k id n c t i z → (k ≡ done → ⊥) → (id ≡ FALSE) × (n ≡ nodes) × (c ≡ children) × (t ≡ cuts) × (i ≡ index)
   refused-changes-nothing (made-1 f) e = (refl, refl, refl, refl, refl)
@@ -71,6 +85,29 @@ module _ (lent : Type 0) (known : ℕ → Type 0) (kind : Type 0) (want : Table 
   refused-changes-nothing (made-4 l u s a f) e = (refl, refl, refl, refl, refl)
   refused-changes-nothing (made-6 l u s a v f) e = (refl, refl, refl, refl, refl)
   refused-changes-nothing (made-0 l u s a v _ _ _ _ h) e = absurd (e refl)
+
+-- The same reading with variable v at "the nearest place inside the bounds".
+abbrev pub atNearest : (v : ℕ) (lower upper : Bound) → Keyed lower → Keyed upper → Reading → Reading
+atNearest v lower upper kl ku ρ = atPlace ρ v (nearest lower upper (ρ .place v)) (place-nearest lower upper kl ku (ρ .place v) (ρ .within v))
+
+-- Narrowing by empty bounds has one answer: under each reading the id's answer either is steady or still changes.
+module _ (t : Table) (z : Sound t) (v : ℕ) (hv : v < firstBoolean) (id : ℕ) (k : Known t id) where
+  pub empty-answer-exists : (m : Reading → Bool) × EmptyAnswer t v id m
+  empty-answer-exists = (λ ρ. one ρ (steady-or-changing t z v hv id k ρ), λ ρ. as-asked ρ (steady-or-changing t z v hv id k ρ))
+    where
+      one : (ρ : Reading) → Steady t v ρ id ⊎ StillChanges t v ρ id → Bool
+      one ρ (inl s) = says t ρ id
+      one ρ (inr c) = false
+
+      not-both : (ρ : Reading) → Steady t v ρ id → StillChanges t v ρ id → ⊥
+      not-both ρ s c = c .apart (s (c .one) (c .other) (c .before-one) (c .before-other) (c .after))
+
+      as-asked : (ρ : Reading) (d : Steady t v ρ id ⊎ StillChanges t v ρ id) → (StillChanges t v ρ id → one ρ d ≡ false) × (Steady t v ρ id → one ρ d ≡ says t ρ id)
+      as-asked ρ (inl s) = (λ c. absurd (not-both ρ s c), λ x. refl)
+      as-asked ρ (inr c) = (λ x. refl, λ s. absurd (not-both ρ s c))
+
+  pub empty-answer-once : (m m′ : Reading → Bool) → EmptyAnswer t v id m → EmptyAnswer t v id m′ → (ρ : Reading) → m ρ ≡ m′ ρ
+  empty-answer-once m m′ h h′ ρ = ⊎-elim (λ s. h ρ .1 s ∙ sym (h′ ρ .1 s)) (λ c. h ρ .0 c ∙ sym (h′ ρ .0 c)) (steady-or-changing t z v hv id k ρ)
 
 -- The operations are right.
 from-range-right : (v : ℕ) (lower upper : Bound) → Keyed lower → Keyed upper → Right (λ u. Unit {0}) (v < firstBoolean) (λ t. from-range t v lower upper) (λ t ρ. inside lower upper (ρ .place v))
@@ -88,7 +125,40 @@ and-right x y t z a h = and-answers t z x y (a .0) (a .1)
 or-right : (x y : ℕ) → Right (BothKnown x y) (Unit {0}) (λ t. or t x y) (λ t ρ. says t ρ x || says t ρ y)
 or-right x y t z a h = or-answers t z x y (a .0) (a .1)
 
--- The five calls: what the id says beside 0, and that 0 or 6 is told by whether there is room.
+restrict-right : (id v : ℕ) (value : Bool) → firstBoolean ≤ v → Right (λ u. KnownTo u id) (v < variables) (λ t. restrict t v value id) (λ t ρ. says t (switched ρ v value) id)
+restrict-right id v value b t z a h = restrict-answers t z id a v b h value
+
+restrict-range-right : (id v : ℕ) (value : Bool) → v < firstBoolean → Right (λ u. KnownTo u id) (v < variables) (λ t. restrict t v value id) (λ t ρ. says t ρ id)
+restrict-range-right id v value b t z a h = rw (restrict-range t z id a v b value) (record { sound = z; continues = same; known = a; means = λ ρ. refl; reached = λ r l m. absurd (omega arith) })
+
+-- what the table and the id that narrowing makes say
+abbrev emptied : ℕ → ℕ → Bound → Bound → Table → Reading → Bool
+emptied id v lower upper t ρ = says ((narrow t v lower upper id) .0) ρ ((narrow t v lower upper id) .1)
+
+module _ (id v : ℕ) (lower upper : Bound) (kl : Keyed lower) (ku : Keyed upper) where
+  narrow-right : empty lower upper ≡ false → Right (λ u. KnownTo u id) (v < firstBoolean) (λ t. narrow t v lower upper id) (λ t ρ. says t (atNearest v lower upper kl ku ρ) id)
+  narrow-right e t z a h = narrow-answers t z id a v h lower upper kl ku e
+
+  widen-right : Right (λ u. KnownTo u id) (v < firstBoolean) (λ t. widen t v lower upper id) (λ t ρ. says t ρ id && inside lower upper (ρ .place v))
+  widen-right t z a h = widen-answers t z id a v h lower upper kl ku
+
+  -- where the bounds are empty, what narrowing makes says what is asked
+  module _ (e : empty lower upper ≡ true) where
+    emptied-as-asked : (t : Table) → Sound t → KnownTo (length t) id → v < firstBoolean → EmptyAnswer t v id (emptied id v lower upper t)
+    emptied-as-asked t z a h =
+        let m = empty-answer-exists t z v h id a in
+        let x = narrow-empty-answers t z id a v h lower upper kl ku e (m .0) (m .1) in
+        λ ρ. (λ c. x .means ρ ∙ (m .1) ρ .0 c, λ s. x .means ρ ∙ (m .1) ρ .1 s)
+
+    emptied-here : (nodes children : List ℕ) (cuts : List ℤ) (index : List ℕ) (u : ℕ) → SoundLent nodes children cuts index u → KnownTo u id → v < firstBoolean
+        → EmptyAnswer (held nodes children cuts u) v id (emptied id v lower upper (held nodes children cuts u))
+    emptied-here nodes children cuts index u s a h =
+        emptied-as-asked (held nodes children cuts u) (holds-a-sound-table nodes children cuts index u s) (subst (λ (n : ℕ). KnownTo n id) (sym ((counts-what-is-held nodes children cuts index u s) .0)) a) h
+
+    narrow-empty-right : Right (λ u. KnownTo u id) (v < firstBoolean) (λ t. narrow t v lower upper id) (emptied id v lower upper)
+    narrow-empty-right t z a h = narrow-empty-answers t z id a v h lower upper kl ku e (emptied id v lower upper t) (emptied-as-asked t z a h)
+
+-- The calls that may add nodes: what the id says beside 0, and that 0 or 6 is told by whether there is room.
 module _ (nodes children : List ℕ) (cuts : List ℤ) (index : List ℕ) where
   module _ (v : ℕ) {k id : ℕ} {n c i : List ℕ} {t : List ℤ} where
     -- Step 3: a range by two bounds holds where the place is inside,
@@ -127,6 +197,62 @@ module _ (nodes children : List ℕ) (cuts : List ℤ) (index : List ℕ) where
     pub or-room : Ors nodes children cuts index memo x y k id n c t i z → Lending nodes children cuts index memo → (u : ℕ) → SoundLent nodes children cuts index u → BothKnown x y u → DoneOrNoRoom (λ s ρ. says s ρ x || says s ρ y) nodes children cuts u k
     or-room o l u s a = done-or-no-room _ _ _ _ _ (or-right x y) nodes children cuts index memo o l u s a tt
 
+  -- Steps 7 to 9, of an id and a variable.
+  module _ (memo : List ℕ) (id v : ℕ) {k to : ℕ} {n c i z : List ℕ} {t : List ℤ} where
+    -- Restriction of a boolean says what the id says with the boolean at the value,
+    pub restrict-answered : (value : Bool) → firstBoolean ≤ v → Restricts nodes children cuts index memo id v value k to n c t i z → k ≡ done → Answered (λ s ρ. says s (switched ρ v value) id) nodes children cuts index to n c t i
+    restrict-answered value b o = answered _ _ _ _ _ (restrict-right id v value b) nodes children cuts index memo o
+
+    pub restrict-room : (value : Bool) → firstBoolean ≤ v → Restricts nodes children cuts index memo id v value k to n c t i z → Lending nodes children cuts index memo → (u : ℕ) → SoundLent nodes children cuts index u → KnownTo u id → v < variables
+        → DoneOrNoRoom (λ s ρ. says s (switched ρ v value) id) nodes children cuts u k
+    restrict-room value b o l u s a h = done-or-no-room _ _ _ _ _ (restrict-right id v value b) nodes children cuts index memo o l u s a h
+
+    -- and of a range variable what the id says.
+    pub restrict-range-answered : (value : Bool) → v < firstBoolean → Restricts nodes children cuts index memo id v value k to n c t i z → k ≡ done → Answered (λ s ρ. says s ρ id) nodes children cuts index to n c t i
+    restrict-range-answered value b o = answered _ _ _ _ _ (restrict-range-right id v value b) nodes children cuts index memo o
+
+    pub restrict-range-room : (value : Bool) → v < firstBoolean → Restricts nodes children cuts index memo id v value k to n c t i z → Lending nodes children cuts index memo → (u : ℕ) → SoundLent nodes children cuts index u → KnownTo u id
+        → DoneOrNoRoom (λ s ρ. says s ρ id) nodes children cuts u k
+    restrict-range-room value b o l u s a = done-or-no-room _ _ _ _ _ (restrict-range-right id v value b) nodes children cuts index memo o l u s a (omega arith)
+
+    module _ (lower upper : Bound) (kl : Keyed lower) (ku : Keyed upper) where
+      -- Narrowing: "the answer at a place is the old answer at the nearest place inside the bounds";
+      pub narrow-answered : empty lower upper ≡ false → Narrows nodes children cuts index memo id v lower upper k to n c t i z → k ≡ done
+          → Answered (λ s ρ. says s (atNearest v lower upper kl ku ρ) id) nodes children cuts index to n c t i
+      narrow-answered e o = answered _ _ _ _ _ (narrow-right id v lower upper kl ku e) nodes children cuts index memo o
+
+      pub narrow-room : empty lower upper ≡ false → Narrows nodes children cuts index memo id v lower upper k to n c t i z → Lending nodes children cuts index memo → (u : ℕ) → SoundLent nodes children cuts index u → KnownTo u id → v < firstBoolean
+          → DoneOrNoRoom (λ s ρ. says s (atNearest v lower upper kl ku ρ) id) nodes children cuts u k
+      narrow-room e o l u s a h = done-or-no-room _ _ _ _ _ (narrow-right id v lower upper kl ku e) nodes children cuts index memo o l u s a h
+
+      -- "with empty bounds the answer is FALSE wherever, the earlier variables being fixed, the old answer still changes with the chosen
+      -- one; elsewhere it is the old answer".
+      pub narrow-empty-answered : empty lower upper ≡ true → Narrows nodes children cuts index memo id v lower upper k to n c t i z → k ≡ done → EmptyAnswered id v nodes children cuts index to n c t i
+      narrow-empty-answered e o d =
+          let x = answered _ _ _ _ _ (narrow-empty-right id v lower upper kl ku e) nodes children cuts index memo o d in
+          let y = done-admitted _ _ _ _ nodes children cuts index o d in
+          record {
+            m = emptied id v lower upper (held nodes children cuts (x .before));
+            answered = record { before = x .before; found = x .found; after = x .after; left = x .left; answers = x .answers };
+            empties = emptied-here id v lower upper kl ku e nodes children cuts index (x .before) (x .found) (subst (λ (u : ℕ). KnownTo u id) (sound-once nodes children cuts index (y .0) (x .before) (y .1) (x .found)) (y .2)) (y .3);
+          }
+
+      pub narrow-empty-room : empty lower upper ≡ true → Narrows nodes children cuts index memo id v lower upper k to n c t i z → Lending nodes children cuts index memo → (u : ℕ) → SoundLent nodes children cuts index u → KnownTo u id → v < firstBoolean
+          → EmptyDoneOrNoRoom id v nodes children cuts u k
+      narrow-empty-room e o l u s a h = record {
+        m = emptied id v lower upper (held nodes children cuts u);
+        empties = emptied-here id v lower upper kl ku e nodes children cuts index u s a h;
+        told = done-or-no-room _ _ _ _ _ (narrow-empty-right id v lower upper kl ku e) nodes children cuts index memo o l u s a h;
+      }
+
+      -- Widening: "old answer and inside the bounds".
+      pub widen-answered : Widens nodes children cuts index memo id v lower upper k to n c t i z → k ≡ done → Answered (λ s ρ. says s ρ id && inside lower upper (ρ .place v)) nodes children cuts index to n c t i
+      widen-answered o = answered _ _ _ _ _ (widen-right id v lower upper kl ku) nodes children cuts index memo o
+
+      pub widen-room : Widens nodes children cuts index memo id v lower upper k to n c t i z → Lending nodes children cuts index memo → (u : ℕ) → SoundLent nodes children cuts index u → KnownTo u id → v < firstBoolean
+          → DoneOrNoRoom (λ s ρ. says s ρ id && inside lower upper (ρ .place v)) nodes children cuts u k
+      widen-room o l u s a h = done-or-no-room _ _ _ _ _ (widen-right id v lower upper kl ku) nodes children cuts index memo o l u s a h
+
 -- Step 6: disjointness beside 0 is yes exactly when no reading makes both true.
 pub disjoint-told : (nodes children : List ℕ) (cuts : List ℤ) (index : List ℕ) (x y : ℕ) {k : ℕ} {b : Bool} → Disjoints nodes children cuts index x y k b → k ≡ done
     → (u : ℕ) × SoundLent nodes children cuts index u × ((b ≡ true) ↔ ((ρ : Reading) → (says (held nodes children cuts u) ρ x && says (held nodes children cuts u) ρ y) ≡ false))
@@ -148,10 +274,10 @@ module _ {lent lent″ : Type 0} (to : lent → lent″) (back : lent″ → len
   with-memo (made-6 l u s a v f) = (replicate (length memo″) 0, made-6 (to l) u s a v f)
   with-memo (made-0 l u s a v n c t i h) = (replicate (length memo″) 0, made-0 (to l) u s a v n c t i h)
 
-pub memo-never-believed : (op : Table → ℕ → ℕ → Table × ℕ) (nodes children : List ℕ) (cuts : List ℤ) (index memo memo″ : List ℕ) → length memo ≡ length memo″ → (x y : ℕ) {k k″ id id″ : ℕ} {n n″ c c″ i i″ z z″ : List ℕ} {t t″ : List ℤ}
-    → Joins nodes children cuts index memo op x y k id n c t i z → Joins nodes children cuts index memo″ op x y k″ id″ n″ c″ t″ i″ z″
+pub memo-never-believed : (known : ℕ → Type 0) (kind : Type 0) (want : Table → Table × ℕ) (nodes children : List ℕ) (cuts : List ℤ) (index memo memo″ : List ℕ) → length memo ≡ length memo″ → {k k″ id id″ : ℕ} {n n″ c c″ i i″ z z″ : List ℕ} {t t″ : List ℤ}
+    → WithMemo nodes children cuts index memo known kind want k id n c t i z → WithMemo nodes children cuts index memo″ known kind want k″ id″ n″ c″ t″ i″ z″
     → (k ≡ k″) × (id ≡ id″) × (n ≡ n″) × (c ≡ c″) × (t ≡ t″) × (i ≡ i″)
-memo-never-believed op nodes children cuts index memo memo″ e x y o o″ =
-    let w = with-memo {lent″ = Lending nodes children cuts index memo″} (λ l. (l .0, sym e ∙ l .1)) (λ l. (l .0, e ∙ l .1)) (BothKnown x y) (Unit {0}) (λ t. op t x y) nodes children cuts index memo memo″ o in
-    let q = makes-once (Lending nodes children cuts index memo″) (BothKnown x y) (Unit {0}) (λ t. op t x y) nodes children cuts index memo″ (w .1) o″ in
+memo-never-believed known kind want nodes children cuts index memo memo″ e o o″ =
+    let w = with-memo {lent″ = Lending nodes children cuts index memo″} (λ l. (l .0, sym e ∙ l .1)) (λ l. (l .0, e ∙ l .1)) known kind want nodes children cuts index memo memo″ o in
+    let q = makes-once (Lending nodes children cuts index memo″) known kind want nodes children cuts index memo″ (w .1) o″ in
     (q .0, q .1, q .2, q .3, q .4, q .5)

@@ -3,15 +3,12 @@ use mathlib.Core.Path.{_≡_}
 use mathlib.Core.Bool.{Bool, true, false}
 use mathlib.Core.List.{List}
 use Prim.Native.Nat.{ℕ, _*_}
-use lib.ListN.{length}
 use lib.IntN.{ℤ}
-use Rattle.ids.specs.Id.{FALSE}
-use Rattle.diagram.specs.Table.{Table}
 use Rattle.table.specs.Layout.{room}
-use Rattle.table.specs.Told.{done, Checks}
+use Rattle.table.specs.Told.{done, wrongRoom, unknownId, Checks}
 use Rattle.making.specs.declared.nodes.Head.{Head}
 use Rattle.making.specs.Outcome.{Lent}
-use Rattle.kernel.specs.Makes.{wrongVariable, BothKnown, Joins}
+use Rattle.kernel.specs.Makes.{wrongVariable, BothKnown}
 
 -- In the order of the checks: a refusal by the check of the table, a variable that is not of the kind that is asked, or a table to work on.
 pub data Admits (nodes children : List ℕ) (cuts : List ℤ) (index : List ℕ) : Bool → ℕ → Head → Type 0 where
@@ -19,7 +16,11 @@ pub data Admits (nodes children : List ℕ) (cuts : List ℤ) (index : List ℕ)
   not-kind : (h : Head) → Lent h nodes children cuts index → Admits nodes children cuts index false wrongVariable h
   admitted : (h : Head) → Lent h nodes children cuts index → Admits nodes children cuts index true done h
 
--- A call that is given two ids and is lent a memo of n words: a table to work on, or its refusal, whatever the memo holds.
-pub record AdmitsPair (nodes children : List ℕ) (cuts : List ℤ) (index : List ℕ) (n x y number : ℕ) (h : Head) : Type 0 where
-  pub lends : number ≡ done → Lent h nodes children cuts index × (n ≡ room nodes * 3) × BothKnown x y (h .used)
-  pub refuses : (number ≡ done → ⊥) → (memo : List ℕ) → length memo ≡ n → (op : Table → ℕ → ℕ → Table × ℕ) → Joins nodes children cuts index memo op x y number FALSE nodes children cuts index memo
+-- The same for a call that is given two ids, or one id twice, and is lent a memo of n words: its length is not the one for the room, a refusal
+-- by the check of the table, an id that is not known, a variable that is not of the kind that is asked, or a table to work on.
+pub data AdmitsIds (nodes children : List ℕ) (cuts : List ℤ) (index : List ℕ) (n x y : ℕ) : Bool → ℕ → Head → Type 0 where
+  ids-not-long : (kind : Bool) (h : Head) → (n ≡ room nodes * 3 → ⊥) → AdmitsIds nodes children cuts index n x y kind wrongRoom h
+  ids-not-lent : (kind : Bool) (h : Head) {k u e : ℕ} → n ≡ room nodes * 3 → Checks nodes children cuts index k u e → (k ≡ done → ⊥) → AdmitsIds nodes children cuts index n x y kind k h
+  ids-not-known : (kind : Bool) (h : Head) → n ≡ room nodes * 3 → Lent h nodes children cuts index → (BothKnown x y (h .used) → ⊥) → AdmitsIds nodes children cuts index n x y kind unknownId h
+  ids-not-kind : (h : Head) → n ≡ room nodes * 3 → Lent h nodes children cuts index → BothKnown x y (h .used) → AdmitsIds nodes children cuts index n x y false wrongVariable h
+  ids-admitted : (h : Head) → n ≡ room nodes * 3 → Lent h nodes children cuts index → BothKnown x y (h .used) → AdmitsIds nodes children cuts index n x y true done h

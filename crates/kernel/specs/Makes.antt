@@ -14,6 +14,7 @@ use Rattle.diagram.specs.Table.{firstBoolean, variables, Table}
 use Rattle.diagram.specs.Room.{Fits}
 use Rattle.algebra.specs.Conditions.{from-range, comparison, from-bool}
 use Rattle.algebra.specs.Conjunction.{and, or}
+use Rattle.algebra.specs.Changing.{restrict, narrow, widen}
 use Rattle.algebra.specs.Disjointness.{is-disjoint}
 use Rattle.table.specs.Layout.{room}
 use Rattle.table.specs.Lent.{SoundLent}
@@ -91,13 +92,17 @@ module _ (nodes children : List ℕ) (cuts : List ℤ) (index : List ℕ) where
   abbrev pub FromBool : ℕ → Outcomes
   FromBool v = Conditions ((firstBoolean ≤ v) × (v < variables)) (λ t. from-bool t v)
 
-  -- Conjunction and disjunction are given two ids and no variable, and are lent a memo: three words for each node record.
+  -- Conjunction, disjunction, restriction, narrowing and widening are lent a memo: three words for each node record.
   module _ (memo : List ℕ) where
     abbrev pub Lending : Type 0
     Lending = Allowed nodes children cuts index × (length memo ≡ room nodes * 3)
 
+    abbrev pub WithMemo : (ℕ → Type 0) → Type 0 → (Table → Table × ℕ) → MemoOutcomes
+    WithMemo known kind want number id nodes′ children′ cuts′ index′ memo′ = Makes Lending known kind want nodes children cuts index memo number id nodes′ children′ cuts′ index′ memo′
+
+    -- Conjunction and disjunction are given two ids and no variable.
     abbrev pub Joins : (Table → ℕ → ℕ → Table × ℕ) → ℕ → ℕ → MemoOutcomes
-    Joins op x y = Makes Lending (BothKnown x y) (Unit {0}) (λ t. op t x y) nodes children cuts index memo
+    Joins op x y = WithMemo (BothKnown x y) (Unit {0}) (λ t. op t x y)
 
     -- "Conjunction",
     abbrev pub Ands : ℕ → ℕ → MemoOutcomes
@@ -106,6 +111,22 @@ module _ (nodes children : List ℕ) (cuts : List ℤ) (index : List ℕ) where
     -- and "`or` by negation".
     abbrev pub Ors : ℕ → ℕ → MemoOutcomes
     Ors x y = Joins or x y
+
+    -- Restriction, narrowing and widening are given one id, and a variable.
+    abbrev pub Changes : ℕ → Type 0 → (Table → Table × ℕ) → MemoOutcomes
+    Changes id kind want = WithMemo (λ u. KnownTo u id) kind want
+
+    -- "Restriction .. of one boolean to a value": "64 or more" is no variable, and "naming a range variable returns the id unchanged".
+    abbrev pub Restricts : ℕ → ℕ → Bool → MemoOutcomes
+    Restricts id v value = Changes id (v < variables) (λ t. restrict t v value id)
+
+    -- "Narrowing .. for any one range variable", by two bounds. Of kinds, "narrowing and widening ask a range variable".
+    abbrev pub Narrows : ℕ → ℕ → Bound → Bound → MemoOutcomes
+    Narrows id v lower upper = Changes id (v < firstBoolean) (λ t. narrow t v lower upper id)
+
+    -- "Widening .. : old answer and inside the bounds".
+    abbrev pub Widens : ℕ → ℕ → Bound → Bound → MemoOutcomes
+    Widens id v lower upper = Changes id (v < firstBoolean) (λ t. widen t v lower upper id)
 
   -- "Disjointness and reading borrow no memo and change nothing": the number, and the answer. "A yes/no call returns no beside any refusal."
   module _ (x y : ℕ) where

@@ -10,6 +10,7 @@ use lib.IntN.{ℤ}
 use Rattle.diagram.specs.Table.{Table}
 use Rattle.diagram.specs.Reading.{Reading}
 use Rattle.algebra.specs.Answering.{Answers, Answerable}
+use Rattle.algebra.specs.Emptying.{EmptyAnswer}
 use Rattle.table.specs.Layout.{room}
 use Rattle.table.specs.Lent.{SoundLent}
 use Rattle.table.specs.Held.{held}
@@ -32,3 +33,16 @@ HasRoom m nodes children cuts u = Answerable (room nodes) (length children) (hel
 -- The number is 0 where there is one, and 6 where there is none.
 abbrev pub DoneOrNoRoom : (Table → Reading → Bool) → List ℕ → List ℕ → List ℤ → ℕ → ℕ → Type 0
 DoneOrNoRoom m nodes children cuts u k = ((k ≡ done) × HasRoom m nodes children cuts u) ⊎ ((k ≡ noRoom) × (HasRoom m nodes children cuts u → ⊥))
+
+-- Narrowing of an id by empty bounds for variable v, done: m is FALSE wherever, the earlier variables being fixed, the old answer still
+-- changes with v, and elsewhere it is the old answer. There is one such m (`empty-answer-exists`, `empty-answer-once`).
+pub record EmptyAnswered (id v : ℕ) (nodes children : List ℕ) (cuts : List ℤ) (index : List ℕ) (to : ℕ) (nodes′ children′ : List ℕ) (cuts′ : List ℤ) (index′ : List ℕ) : Type 0 where
+  pub m : Reading → Bool
+  pub answered : Answered (λ s. m) nodes children cuts index to nodes′ children′ cuts′ index′
+  pub empties : EmptyAnswer (held nodes children cuts (answered .before)) v id m
+
+-- And its number, 0 or 6, is told by whether there is room for it.
+pub record EmptyDoneOrNoRoom (id v : ℕ) (nodes children : List ℕ) (cuts : List ℤ) (u k : ℕ) : Type 0 where
+  pub m : Reading → Bool
+  pub empties : EmptyAnswer (held nodes children cuts u) v id m
+  pub told : DoneOrNoRoom (λ s. m) nodes children cuts u k

@@ -3,7 +3,7 @@ ghost use Prim.Native.Nat.{_≤_, _<_, _^_};
 ghost use Rattle.diagram.specs.Table.{firstBoolean, variables};
 ghost use Rattle.table.specs.Deciding.{Decides};
 ghost use Rattle.kernel.specs.Makes.{BothKnown};
-ghost use Rattle.kernel.specs.Admitting.{Admits, AdmitsPair};
+ghost use Rattle.kernel.specs.Admitting.{Admits, AdmitsIds};
 use super::answers::WRONG_VARIABLE;
 use ids::NodeId;
 use making::nodes::Head;
@@ -45,8 +45,9 @@ pub fn admit(nodes: &[u32], children: &[u32], cuts: &[i64], index: &[u32], kind:
     Admission { number: DONE, head }
 }
 
-// Refusals 1, 2 and 3, for a call that is given two ids and is lent a memo of `memo` words.
-pub fn admit_pair(
+// Refusals 1 to 4, for a call that is given two ids, or one id twice, and is lent a memo of `memo` words. The kind comes after the ids; a
+// call that asks none says true.
+pub fn admit_ids(
     nodes: &[u32],
     children: &[u32],
     cuts: &[i64],
@@ -54,8 +55,9 @@ pub fn admit_pair(
     memo: usize,
     x: NodeId,
     y: NodeId,
+    kind: bool,
 ) -> Admission
-    ensures { λ r. ⌜ AdmitsPair (now (nodes .entry)) (now (children .entry)) (now (cuts .entry)) (now (index .entry)) memo (x .0) (y .0) (r .number) (r .head) ⌝ }
+    ensures { λ r. ⌜ AdmitsIds (now (nodes .entry)) (now (children .entry)) (now (cuts .entry)) (now (index .entry)) memo (x .0) (y .0) kind (r .number) (r .head) ⌝ }
 {
     if memo != nodes.len() / 4 * 3 {
         return Admission {
@@ -63,20 +65,20 @@ pub fn admit_pair(
             head: Head { used: 0, edges: 0 },
         };
     }
-    let c = check(nodes, children, cuts, index);
-    let head = Head {
-        used: c.nodes,
-        edges: c.edges,
-    };
-    if c.number != DONE {
+    let a = admit(nodes, children, cuts, index, true);
+    if a.number != DONE {
+        return a;
+    }
+    let head = a.head;
+    if !both_known(head.used, x, y) {
         return Admission {
-            number: c.number,
+            number: UNKNOWN_ID,
             head,
         };
     }
-    if !both_known(c.nodes, x, y) {
+    if !kind {
         return Admission {
-            number: UNKNOWN_ID,
+            number: WRONG_VARIABLE,
             head,
         };
     }
@@ -90,11 +92,18 @@ pub fn is_range(v: u32) -> bool
     wide(v) < FIRST_BOOLEAN
 }
 
+// Whether it is one of the variables 0 to 63.
+pub fn is_variable(v: u32) -> bool
+    ensures { λ r. ⌜ Decides (v < variables) r ⌝ }
+{
+    wide(v) < VARIABLES
+}
+
 // Whether it is one of the variables 32 to 63.
 pub fn is_boolean(v: u32) -> bool
     ensures { λ r. ⌜ Decides ((firstBoolean ≤ v) × (v < variables)) r ⌝ }
 {
-    !is_range(v) && wide(v) < VARIABLES
+    !is_range(v) && is_variable(v)
 }
 
 // Whether two ids are known, where this many nodes are used.

@@ -1,6 +1,6 @@
 // Conjunction and disjunction. Document 01, step 5. Refusals 1, 2, 3 and 6.
 ghost use Rattle.kernel.specs.Makes.{Ands, Ors};
-use super::admission::admit_pair;
+use super::admission::admit_ids;
 use super::answers::Answer;
 use super::answers::answer_of;
 use super::answers::refused;
@@ -20,7 +20,7 @@ pub fn and(
 ) -> Answer
     ensures { λ r. ⌜ Ands (now (nodes .entry)) (now (children .entry)) (now (cuts .entry)) (now (index .entry)) (now (memo .entry)) (x .0) (y .0) (r .number) (r .id .0) (now (nodes .exit)) (now (children .exit)) (now (cuts .exit)) (now (index .exit)) (now (memo .exit)) ⌝ }
 {
-    let a = admit_pair(nodes, children, cuts, index, memo.len(), x, y);
+    let a = admit_ids(nodes, children, cuts, index, memo.len(), x, y, true);
     if a.number != DONE {
         return refused(a.number);
     }
@@ -40,7 +40,7 @@ pub fn or(
 ) -> Answer
     ensures { λ r. ⌜ Ors (now (nodes .entry)) (now (children .entry)) (now (cuts .entry)) (now (index .entry)) (now (memo .entry)) (x .0) (y .0) (r .number) (r .id .0) (now (nodes .exit)) (now (children .exit)) (now (cuts .exit)) (now (index .exit)) (now (memo .exit)) ⌝ }
 {
-    let a = admit_pair(nodes, children, cuts, index, memo.len(), x, y);
+    let a = admit_ids(nodes, children, cuts, index, memo.len(), x, y, true);
     if a.number != DONE {
         return refused(a.number);
     }

@@ -2,6 +2,7 @@
 // word of every slice, for all contents of all slices. Their outcomes are defined in specs/ and their promises are proved in proofs/.
 pub mod admission;
 pub mod answers;
+pub mod changes_calls;
 pub mod conditions_calls;
 pub mod disjointness_calls;
 pub mod joins_calls;

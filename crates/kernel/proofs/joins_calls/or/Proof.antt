@@ -1,12 +1,13 @@
 -- `joins_calls::or` has the one outcome that its contract allows. Assumes nothing.
-use Rattle.algebra.specs.Conjunction.{or as operation}
-use Rattle.kernel.proofs.Paired.{pair-refused, pair-answered}
+use mathlib.Core.Path.{refl}
+use Rattle.kernel.proofs.Deciding.{asks-none}
+use Rattle.kernel.proofs.ByIds.{ids-lent, ids-refused, ids-answered}
 use borrow.Author.Needs.{needs}
 use Rattle.kernel.proofs.joins_calls.or.Statement.{statement}
 use Rattle.kernel.proofs.joins_calls.or.Tie as tie
 
-admit-pair-requires : tie.Need-admit-pair-requires
-admit-pair-requires c κs = search needs
+admit-ids-requires : tie.Need-admit-ids-requires
+admit-ids-requires c κs = search needs
 
 refused-requires : tie.Need-refused-requires
 refused-requires c κs = search needs
@@ -24,10 +25,10 @@ same-length-4 : tie.Need-same-length-4
 same-length-4 c = search needs
 
 returns : tie.Need-returns
-returns c = pair-refused operation ((c .before .before .before .before .before .before .before .before .before .before .before .before .args .memo .now)) ((c .before .before .before .admit-pair .ensures)) ((c .before .if1 .taken)) ((c .refused .ensures))
+returns c = ids-refused _ _ _ _ _ _ _ _ _ _ (λ u k. k) (λ u k. k) asks-none ((c .before .before .before .admit-ids .ensures)) ((c .before .if1 .taken)) ((c .refused .ensures))
 
 or-requires : tie.Need-or-requires
-or-requires c κs = let l = (c .before .before .before .before .before .before .before .before .admit-pair .ensures .lends) ((c .before .before .before .before .before .before .if1 .left)) in (l .0, l .1, l .2 .0, l .2 .1)
+or-requires c κs = let l = ids-lent asks-none ((c .before .before .before .before .before .before .before .before .admit-ids .ensures)) ((c .before .before .before .before .before .before .if1 .left)) in (l .0, l .1, l .2 .0, l .2 .1)
 
 answer-of-requires : tie.Need-answer-of-requires
 answer-of-requires c κs = search needs
@@ -48,13 +49,13 @@ same-length-9 : tie.Need-same-length-9
 same-length-9 c = search needs
 
 returns-2 : tie.Need-returns-2
-returns-2 c = pair-answered operation ((c .before .before .before .before .before .before .before .before .before .before .before .before .before .before .before .before .before .before .before .admit-pair .ensures)) ((c .before .before .before .before .before .before .before .before .before .before .before .before .before .before .before .before .before .if1 .left)) ((c .before .before .before .before .before .before .before .before .before .before .or .ensures)) ((c .answer-of .ensures))
+returns-2 c = ids-answered _ _ _ _ _ _ _ _ _ _ (λ u k. k) (λ u k. k) asks-none ((c .before .before .before .before .before .before .before .before .before .before .before .before .before .before .before .before .before .before .before .admit-ids .ensures)) ((c .before .before .before .before .before .before .before .before .before .before .before .before .before .before .before .before .before .if1 .left)) ((c .before .before .before .before .before .before .before .before .before .before .or .ensures)) refl ((c .answer-of .ensures))
 
 pub or-spec : {M : Type 1} → statement M
 or-spec =
     tie.close
     (tie.spec
-    admit-pair-requires
+    admit-ids-requires
     refused-requires
     same-length
     same-length-2

@@ -1,0 +1,75 @@
+-- What the proofs of the calls that are given ids and are lent a memo hand their facts to: what is found before any work, and each row.
+-- Assumes nothing.
+use mathlib.Core.Path.{_≡_, refl, ap}
+use mathlib.Core.Bool.{Bool, true, false, cond}
+use mathlib.Core.List.{List}
+use Prim.Native.Nat.{ℕ, _*_}
+use native.Mathlib.Omega.{arith}
+use lib.ListN.{length}
+use lib.IntN.{ℤ}
+use Rattle.ids.specs.Id.{FALSE}
+use Rattle.ranges.specs.declared.bounds.Bound.{Bound}
+use Rattle.diagram.specs.Table.{Table}
+use Rattle.algebra.specs.Changing.{restrict, narrow, widen}
+use Rattle.table.specs.Layout.{room}
+use Rattle.table.specs.Deciding.{Decides}
+use Rattle.table.specs.Told.{done}
+use Rattle.table.proofs.Laws.{proved, refuted}
+use Rattle.making.specs.declared.nodes.Head.{Head}
+use Rattle.making.specs.declared.nodes.Made.{Made}
+use Rattle.making.specs.Outcome.{Lent, tableOf}
+use Rattle.walks.specs.Walking.{Worked}
+use Rattle.kernel.specs.Makes.{wrongVariable, noRoom, made-1, made-3, made-4, BothKnown, WithMemo}
+use Rattle.kernel.specs.Admitting.{Admits, not-lent, admitted, AdmitsIds, ids-not-long, ids-not-lent, ids-not-known, ids-not-kind, ids-admitted}
+use Rattle.kernel.proofs.Handing.{check-refuses, outcome-told}
+
+module _ {nodes children : List ℕ} {cuts : List ℤ} {index : List ℕ} {n x y : ℕ} {kind : Bool} (long : n ≡ room nodes * 3) where
+  -- the table is refused
+  pub ids-refuse-table : {h : Head} {k : ℕ} → Admits nodes children cuts index true k h → (k ≡ done → ⊥) → AdmitsIds nodes children cuts index n x y kind k h
+  ids-refuse-table (not-lent b h c f) g = ids-not-lent kind h long c f
+  ids-refuse-table (admitted h l) g = absurd (g refl)
+
+  -- it is lent, and the variable decides
+  pub ids-refuse-kind : {h : Head} → Lent h nodes children cuts index → BothKnown x y (h .used) → kind ≡ false → AdmitsIds nodes children cuts index n x y kind wrongVariable h
+  ids-refuse-kind {h} l b e = rw e (ids-not-kind h long l b)
+
+  pub ids-admit : {h : Head} → Lent h nodes children cuts index → BothKnown x y (h .used) → kind ≡ true → AdmitsIds nodes children cuts index n x y kind done h
+  ids-admit {h} l b e = rw e (ids-admitted h long l b)
+
+-- what a call may work on
+pub ids-lent : {kind : Type 0} {nodes children : List ℕ} {cuts : List ℤ} {index : List ℕ} {n x y : ℕ} {b : Bool} {k : ℕ} {h : Head} → Decides kind b → AdmitsIds nodes children cuts index n x y b k h → k ≡ done
+    → Lent h nodes children cuts index × (n ≡ room nodes * 3) × BothKnown x y (h .used) × kind
+ids-lent d (ids-not-long b h f) g = absurd (omega arith)
+ids-lent d (ids-not-lent b h e c f) g = absurd (f g)
+ids-lent d (ids-not-known b h e l f) g = absurd (omega arith)
+ids-lent d (ids-not-kind h e l a) g = absurd (omega arith)
+ids-lent d (ids-admitted h e l a) g = (l, e, a, proved d refl)
+
+-- A call says in its own words that its ids are known.
+module _ (known : ℕ → Type 0) (kind : Type 0) (want : Table → Table × ℕ) (nodes children : List ℕ) (cuts : List ℤ) (index memo : List ℕ) (x y : ℕ)
+    (to : (u : ℕ) → BothKnown x y u → known u) (back : (u : ℕ) → known u → BothKnown x y u) where
+  -- rows 1 to 4
+  pub ids-refused : {b : Bool} {k n id : ℕ} {h : Head} → Decides kind b → AdmitsIds nodes children cuts index (length memo) x y b k h → (k ≡ done → ⊥) → (n ≡ k) × (id ≡ FALSE) → WithMemo nodes children cuts index memo known kind want n id nodes children cuts index memo
+  ids-refused d (ids-not-long b h f) g q = rw (q .0, q .1) (made-1 (λ l. f (l .1)))
+  ids-refused d (ids-not-lent b h e c f) g q = rw (q .0, q .1) (check-refuses _ known kind want nodes children cuts index memo (λ a. (a, e)) (λ l. l .0) c f)
+  ids-refused d (ids-not-known b h e l f) g q = rw (q .0, q .1) (made-3 (l .allowed, e) (h .used) (l .sound) (λ a. f (back (h .used) a)))
+  ids-refused d (ids-not-kind h e l a) g q = rw (q .0, q .1) (made-4 (l .allowed, e) (h .used) (l .sound) (to (h .used) a) (refuted d refl))
+  ids-refused d (ids-admitted h e l a) g q = absurd (g refl)
+
+  -- rows 6 and 0, from what the operation leaves
+  pub ids-answered : {b : Bool} {k n id : ℕ} {h : Head} {made : Table × ℕ} {r : Made} {nodes′ children′ : List ℕ} {cuts′ : List ℤ} {index′ memo′ : List ℕ} → Decides kind b
+      → AdmitsIds nodes children cuts index (length memo) x y b k h → k ≡ done → Worked h made r nodes children cuts index memo nodes′ children′ cuts′ index′ memo′ → made ≡ want (tableOf h nodes children cuts)
+      → (n ≡ cond (r .ok) done noRoom) × (id ≡ cond (r .ok) (r .id .0) FALSE) → WithMemo nodes children cuts index memo known kind want n id nodes′ children′ cuts′ index′ memo′
+  ids-answered {h = h} d a g w e q =
+      let l = ids-lent d a g in
+      outcome-told _ known kind want nodes children cuts index memo (l .0 .allowed, l .1) (l .0) (to (h .used) (l .2)) (l .3) (w .outcome) (w .untouched) (w .zeroed) e q
+
+-- The code hands a variable on as a wide number.
+pub same-restrict : (t : Table) {w v : ℕ} (value : Bool) (id : ℕ) → w ≡ v → restrict t w value id ≡ restrict t v value id
+same-restrict t value id e = ap (λ (n : ℕ). restrict t n value id) e
+
+pub same-narrow : (t : Table) {w v : ℕ} (lower upper : Bound) (id : ℕ) → w ≡ v → narrow t w lower upper id ≡ narrow t v lower upper id
+same-narrow t lower upper id e = ap (λ (n : ℕ). narrow t n lower upper id) e
+
+pub same-widen : (t : Table) {w v : ℕ} (lower upper : Bound) (id : ℕ) → w ≡ v → widen t w lower upper id ≡ widen t v lower upper id
+same-widen t lower upper id e = ap (λ (n : ℕ). widen t n lower upper id) e

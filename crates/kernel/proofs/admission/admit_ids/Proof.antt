@@ -1,0 +1,42 @@
+-- `admission::admit_ids` meets its contract. Assumes nothing.
+use native.Mathlib.Omega.{arith}
+use borrow.Author.Tests.{not-true, not-false}
+use Rattle.table.proofs.Laws.{proved, refuted}
+use Rattle.kernel.specs.Admitting.{ids-not-long, ids-not-known}
+use Rattle.kernel.proofs.Admitted.{admitted-lent}
+use Rattle.kernel.proofs.Deciding.{asks-none}
+use Rattle.kernel.proofs.ByIds.{ids-refuse-table, ids-refuse-kind, ids-admit}
+use borrow.Author.Needs.{needs}
+use Rattle.kernel.proofs.admission.admit_ids.Statement.{statement}
+use Rattle.kernel.proofs.admission.admit_ids.Tie as tie
+
+mul-if1 : tie.Need-mul-if1
+mul-if1 c = search needs
+
+returns : tie.Need-returns
+returns c = ids-not-long _ _ (λ q. omega (arith, q))
+
+admit-requires : tie.Need-admit-requires
+admit-requires c κs = search needs
+
+returns-2 : tie.Need-returns-2
+returns-2 c = ids-refuse-table (omega arith) ((c .before .before .admit .ensures)) ((c .if2 .taken))
+
+both-known-requires : tie.Need-both-known-requires
+both-known-requires c κs =
+    let l = admitted-lent asks-none ((c .before .before .before .admit .ensures)) ((c .before .if2 .left)) in
+    omega (arith, l .0 .sound .fits, l .0 .allowed .most-nodes)
+
+returns-3 : tie.Need-returns-3
+returns-3 c = ids-not-known _ _ (omega arith) (admitted-lent asks-none ((c .before .before .before .before .before .admit .ensures)) ((c .before .before .before .if2 .left)) .0) (refuted ((c .before .both-known .ensures)) (not-true _ ((c .if3 .taken))))
+
+returns-4 : tie.Need-returns-4
+returns-4 c = ids-refuse-kind (omega arith) (admitted-lent asks-none ((c .before .before .before .before .before .before .admit .ensures)) ((c .before .before .before .before .if2 .left)) .0) (proved ((c .before .before .both-known .ensures)) (not-false _ ((c .before .if3 .left)))) (not-true _ ((c .if4 .taken)))
+
+returns-5 : tie.Need-returns-5
+returns-5 c = ids-admit (omega arith) (admitted-lent asks-none ((c .before .before .before .before .before .before .admit .ensures)) ((c .before .before .before .before .if2 .left)) .0) (proved ((c .before .before .both-known .ensures)) (not-false _ ((c .before .if3 .left)))) (not-false _ ((c .if4 .left)))
+
+pub admit-ids-spec : {M : Type 1} → statement M
+admit-ids-spec =
+    tie.close
+    (tie.spec mul-if1 returns admit-requires returns-2 both-known-requires returns-3 returns-4 returns-5)

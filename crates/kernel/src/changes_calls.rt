@@ -1,0 +1,106 @@
+// Restriction, narrowing and widening. Document 01, steps 7 to 9. Refusals 1, 2, 3, 4 and 6; "narrowing and widening ask a range variable",
+// and restriction takes any of the 64.
+ghost use Rattle.kernel.specs.Makes.{Restricts, Narrows, Widens};
+use super::admission::admit_ids;
+use super::admission::is_range;
+use super::admission::is_variable;
+use super::answers::Answer;
+use super::answers::answer_of;
+use super::answers::refused;
+use changes::narrowing;
+use changes::restriction;
+use changes::widening;
+use ids::NodeId;
+use ranges::bounds::Bound;
+use table::told::DONE;
+use table::words::wide;
+
+// "Restriction .. of one boolean to a value".
+pub fn restrict(
+    nodes: &mut [u32],
+    children: &mut [u32],
+    cuts: &mut [i64],
+    index: &mut [u32],
+    memo: &mut [u32],
+    id: NodeId,
+    v: u32,
+    value: bool,
+) -> Answer
+    ensures { λ r. ⌜ Restricts (now (nodes .entry)) (now (children .entry)) (now (cuts .entry)) (now (index .entry)) (now (memo .entry)) (id .0) v value (r .number) (r .id .0) (now (nodes .exit)) (now (children .exit)) (now (cuts .exit)) (now (index .exit)) (now (memo .exit)) ⌝ }
+{
+    let kind = is_variable(v);
+    let a = admit_ids(nodes, children, cuts, index, memo.len(), id, id, kind);
+    if a.number != DONE {
+        return refused(a.number);
+    }
+    let head = a.head;
+    answer_of(restriction::restrict(nodes, children, cuts, index, memo, head, id, wide(v), value))
+}
+
+// "The answer at a place is the old answer at the nearest place inside the bounds".
+pub fn narrow(
+    nodes: &mut [u32],
+    children: &mut [u32],
+    cuts: &mut [i64],
+    index: &mut [u32],
+    memo: &mut [u32],
+    id: NodeId,
+    v: u32,
+    lower: Bound,
+    upper: Bound,
+) -> Answer
+    ensures { λ r. ⌜ Narrows (now (nodes .entry)) (now (children .entry)) (now (cuts .entry)) (now (index .entry)) (now (memo .entry)) (id .0) v lower upper (r .number) (r .id .0) (now (nodes .exit)) (now (children .exit)) (now (cuts .exit)) (now (index .exit)) (now (memo .exit)) ⌝ }
+{
+    let kind = is_range(v);
+    let a = admit_ids(nodes, children, cuts, index, memo.len(), id, id, kind);
+    if a.number != DONE {
+        return refused(a.number);
+    }
+    let head = a.head;
+    answer_of(narrowing::narrow(
+        nodes,
+        children,
+        cuts,
+        index,
+        memo,
+        head,
+        id,
+        wide(v),
+        lower,
+        upper,
+    ))
+}
+
+// "Old answer and inside the bounds."
+pub fn widen(
+    nodes: &mut [u32],
+    children: &mut [u32],
+    cuts: &mut [i64],
+    index: &mut [u32],
+    memo: &mut [u32],
+    id: NodeId,
+    v: u32,
+    lower: Bound,
+    upper: Bound,
+) -> Answer
+    ensures { λ r. ⌜ Widens (now (nodes .entry)) (now (children .entry)) (now (cuts .entry)) (now (index .entry)) (now (memo .entry)) (id .0) v lower upper (r .number) (r .id .0) (now (nodes .exit)) (now (children .exit)) (now (cuts .exit)) (now (index .exit)) (now (memo .exit)) ⌝ }
+{
+    let kind = is_range(v);
+    let a = admit_ids(nodes, children, cuts, index, memo.len(), id, id, kind);
+    if a.number != DONE {
+        return refused(a.number);
+    }
+    let head = a.head;
+    answer_of(widening::widen(
+        nodes,
+        children,
+        cuts,
+        index,
+        memo,
+        head,
+        id,
+        wide(v),
+        lower,
+        upper,
+    ))
+}
