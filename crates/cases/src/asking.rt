@@ -18,6 +18,9 @@ use super::words::fill;
 use ids::NodeId;
 use kernel::answers::Answer;
 use kernel::answers::NO_ROOM;
+use kernel::changes_calls::narrow;
+use kernel::changes_calls::restrict;
+use kernel::changes_calls::widen;
 use kernel::conditions_calls::from_bool;
 use kernel::conditions_calls::from_comparison;
 use kernel::conditions_calls::from_range;
@@ -84,6 +87,29 @@ fn ask_less(
     }
 }
 
+// A change at one variable.
+fn change(
+    nodes: &mut [u32],
+    children: &mut [u32],
+    cuts: &mut [i64],
+    index: &mut [u32],
+    memo: &mut [u32],
+    q: Question,
+) -> Answer {
+    match q {
+        Question::Restrict(id, v, value) => {
+            restrict(nodes, children, cuts, index, memo, NodeId(id), v, value)
+        }
+        Question::Narrow(id, v, low, high) => {
+            narrow(nodes, children, cuts, index, memo, NodeId(id), v, low, high)
+        }
+        Question::Widen(id, v, low, high) => {
+            widen(nodes, children, cuts, index, memo, NodeId(id), v, low, high)
+        }
+        _ => ask_less(nodes, children, cuts, index, q),
+    }
+}
+
 fn ask(
     nodes: &mut [u32],
     children: &mut [u32],
@@ -95,7 +121,7 @@ fn ask(
     match q {
         Question::And(x, y) => and(nodes, children, cuts, index, memo, NodeId(x), NodeId(y)),
         Question::Or(x, y) => or(nodes, children, cuts, index, memo, NodeId(x), NodeId(y)),
-        _ => ask_less(nodes, children, cuts, index, q),
+        _ => change(nodes, children, cuts, index, memo, q),
     }
 }
 
@@ -126,7 +152,7 @@ fn show_answer(kind: Kind, number: u32, value: u32) {
     }
     match kind {
         Kind::Makes => show::id(value),
-        Kind::Joins => {
+        Kind::Works => {
             show::id(value);
             show_memo(number);
         }
@@ -143,12 +169,12 @@ fn is_right(memo: &[u32], case: Case, said: Answer) -> bool {
         return false;
     }
     match kind {
-        Kind::Joins => memo_right(memo, said.number),
+        Kind::Works => memo_right(memo, said.number),
         _ => true,
     }
 }
 
-// A line for a case.
+// One line for a case.
 fn judge(memo: &[u32], c: Count, case: Case, said: Answer) -> Count {
     let id = said.id;
     let q = case.asks;

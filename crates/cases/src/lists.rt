@@ -17,10 +17,14 @@ use table::told::UNKNOWN_ID;
 use table::told::WRONG_ROOM;
 
 pub enum List {
-    // C1 to C12.
+    // C1 to C12, C14, C15, and restriction.
     First,
     // C13.
     Merged,
+    // a widened by x in [3,7], which is to stay in the order of variables.
+    Widened,
+    // A restriction that makes nodes below both edges of a boolean node: the low ones first.
+    Restricted,
     // C16: what fills a table with room for four nodes, and what it refuses then.
     Fills,
     Overfills,
@@ -40,18 +44,20 @@ pub enum List {
 
 pub fn length(list: List) -> usize {
     match list {
-        List::First => 20,
+        List::First => 41,
         List::Merged => 13,
-        List::Fills => 5,
-        List::Overfills => 3,
+        List::Widened => 6,
+        List::Restricted => 15,
+        List::Fills => 6,
+        List::Overfills => 5,
         List::Largest => 1,
         List::Oversized => 1,
-        List::Sixty => 68,
+        List::Sixty => 71,
         List::Last => 4,
-        List::TooFar => 6,
+        List::TooFar => 12,
         List::Some => 1,
-        List::Damaged => 3,
-        List::OtherMemo => 3,
+        List::Damaged => 5,
+        List::OtherMemo => 5,
     }
 }
 
@@ -59,6 +65,8 @@ pub fn nth(list: List, k: usize) -> Case {
     match list {
         List::First => first(k),
         List::Merged => merged(k),
+        List::Widened => widened(k),
+        List::Restricted => restricted(k),
         List::Fills => fills(k),
         List::Overfills => overfills(k),
         List::Largest => done(16, Question::Boolean(32), 2),
@@ -102,8 +110,89 @@ fn from_c11(k: usize) -> Case {
         15 => done(11, Question::Disjoint(15, 19), YES),
         16 => done(12, Question::Read(10, 8), YES),
         17 => done(12, Question::Read(10, 10), NO),
-        18 => done(0, Question::AllNodes, 9),
+        _ => from_c14(k),
+    }
+}
+
+// No change below adds a node.
+fn from_c14(k: usize) -> Case {
+    match k {
+        18 => done(14, narrow(7, Bound::Includes(5), Bound::Includes(5)), 0),
+        19 => done(14, narrow(2, Bound::Includes(3), Bound::Includes(4)), 0),
+        20 => done(14, narrow(2, Bound::Includes(5), Bound::Open), 1),
+        21 => done(14, narrow(2, Bound::Includes(3), Bound::Includes(7)), 2),
+        22 => done(15, narrow(0, Bound::Includes(7), Bound::Includes(3)), 0),
+        23 => done(15, narrow(2, Bound::Includes(7), Bound::Includes(3)), 1),
+        24 => done(15, narrow(8, Bound::Includes(7), Bound::Includes(3)), 8),
+        25 => done(15, widen(0, Bound::Includes(7), Bound::Includes(3)), 1),
+        26 => done(15, widen(2, Bound::Includes(7), Bound::Includes(3)), 1),
+        27 => done(15, widen(8, Bound::Includes(7), Bound::Includes(3)), 1),
+        _ => from_f3(k),
+    }
+}
+
+// Narrowing by empty bounds does not commute with negation: 2 and 3 both become FALSE. 10 is (x<5 and a), 11 its complement, 12 (x<5 or a).
+fn from_f3(k: usize) -> Case {
+    match k {
+        28 => done(0, narrow(3, Bound::Includes(7), Bound::Includes(3)), 1),
+        29 => done(0, narrow(10, Bound::Open, Bound::Open), 10),
+        30 => done(0, widen(11, Bound::Open, Bound::Open), 11),
+        31 => done(0, widen(1, Bound::Includes(3), Bound::Includes(7)), 1),
+        32 => done(0, Question::Restrict(10, 32, true), 2),
+        33 => done(0, Question::Restrict(10, 32, false), 1),
+        34 => done(0, Question::Restrict(11, 32, true), 3),
+        35 => done(0, Question::Restrict(12, 32, true), 0),
+        36 => done(0, Question::Restrict(12, 32, false), 2),
+        37 => done(0, Question::Restrict(10, 33, true), 10),
+        38 => done(0, Question::Restrict(10, 0, false), 10),
+        39 => done(0, Question::AllNodes, 9),
         _ => done(0, Question::AllEdges, 22),
+    }
+}
+
+// Of x.
+fn narrow(id: u32, lower: Bound, upper: Bound) -> Question {
+    Question::Narrow(id, 0, lower, upper)
+}
+
+fn widen(id: u32, lower: Bound, upper: Bound) -> Question {
+    Question::Widen(id, 0, lower, upper)
+}
+
+// The source puts x below a here, and then says that 5 and x<3 are not disjoint. 9 is x in [3,7], a node that widening does not make.
+fn widened(k: usize) -> Case {
+    match k {
+        0 => done(0, Question::Boolean(32), 2),
+        1 => done(0, widen(2, Bound::Includes(3), Bound::Includes(7)), 5),
+        2 => done(0, Question::AllNodes, 2),
+        3 => done(0, Question::Compare(0, Comparison::LessThan, 3), 6),
+        4 => done(0, Question::Disjoint(5, 6), YES),
+        _ => done(
+            0,
+            Question::Between(0, Bound::Includes(3), Bound::Includes(7)),
+            9,
+        ),
+    }
+}
+
+// 20 is (b and c and d, if a; else b or c and d). With d, below its low edge (b or c) is made first, and then below its high one (b and c).
+fn restricted(k: usize) -> Case {
+    match k {
+        0 => done(0, Question::Boolean(32), 2),
+        1 => done(0, Question::Boolean(33), 4),
+        2 => done(0, Question::Boolean(34), 6),
+        3 => done(0, Question::Boolean(35), 8),
+        4 => done(0, Question::And(6, 8), 10),
+        5 => done(0, Question::And(4, 10), 12),
+        6 => done(0, Question::Or(4, 10), 14),
+        7 => done(0, Question::And(2, 12), 16),
+        8 => done(0, Question::And(3, 14), 19),
+        9 => done(0, Question::Or(16, 19), 20),
+        10 => done(0, Question::Restrict(20, 35, true), 26),
+        11 => done(0, Question::Or(4, 6), 22),
+        12 => done(0, Question::And(4, 6), 24),
+        13 => done(0, Question::AllNodes, 13),
+        _ => done(0, Question::AllEdges, 26),
     }
 }
 
@@ -136,7 +225,8 @@ fn fills(k: usize) -> Case {
         1 => done(0, Question::Compare(0, Comparison::LessEqual, 5), 4),
         2 => done(0, Question::Compare(0, Comparison::Equal, 5), 7),
         3 => done(0, Question::Boolean(32), 8),
-        _ => done(16, Question::And(2, 4), 2),
+        4 => done(16, Question::And(2, 4), 2),
+        _ => done(0, narrow(7, Bound::Includes(5), Bound::Open), 4),
     }
 }
 
@@ -144,7 +234,9 @@ fn overfills(k: usize) -> Case {
     match k {
         0 => refused(16, Question::Compare(0, Comparison::LessThan, 6), NO_ROOM),
         1 => refused(16, Question::Boolean(33), NO_ROOM),
-        _ => refused(16, Question::And(2, 8), NO_ROOM),
+        2 => refused(16, Question::And(2, 8), NO_ROOM),
+        3 => refused(0, widen(8, Bound::Includes(3), Bound::Includes(7)), NO_ROOM),
+        _ => refused(0, widen(2, Bound::Includes(0), Bound::Open), NO_ROOM),
     }
 }
 
@@ -201,7 +293,10 @@ fn sixty_four(k: usize) -> Case {
         64 => done(16, Question::Edges(126), 64),
         65 => done(0, Question::AllNodes, 64),
         66 => done(0, Question::AllEdges, 443),
-        _ => refused(16, Question::Or(126, 129), NO_ROOM),
+        67 => refused(16, Question::Or(126, 129), NO_ROOM),
+        68 => refused(0, widen(126, Bound::Includes(-5), Bound::Open), NO_ROOM),
+        69 => done(0, narrow(126, Bound::Includes(1), Bound::Open), 131),
+        _ => done(0, Question::Edges(131), 63),
     }
 }
 
@@ -225,7 +320,35 @@ fn too_far(k: usize) -> Case {
         ),
         3 => refused(16, Question::Read(7, 4294967296), BEYOND_PLACES),
         4 => refused(0, Question::And(0, 8), UNKNOWN_ID),
-        _ => refused(0, Question::Disjoint(1, 8), UNKNOWN_ID),
+        5 => refused(0, Question::Disjoint(1, 8), UNKNOWN_ID),
+        _ => too_far_to_change(k),
+    }
+}
+
+fn too_far_to_change(k: usize) -> Case {
+    match k {
+        6 => refused(0, Question::Restrict(0, 64, true), WRONG_VARIABLE),
+        7 => refused(0, Question::Restrict(8, 64, true), UNKNOWN_ID),
+        8 => refused(
+            0,
+            Question::Narrow(0, 40, Bound::Includes(3), Bound::Includes(7)),
+            WRONG_VARIABLE,
+        ),
+        9 => refused(
+            0,
+            Question::Narrow(2, 32, Bound::Open, Bound::Open),
+            WRONG_VARIABLE,
+        ),
+        10 => refused(
+            0,
+            Question::Widen(8, 64, Bound::Includes(7), Bound::Includes(3)),
+            UNKNOWN_ID,
+        ),
+        _ => refused(
+            0,
+            Question::Widen(1, 63, Bound::Includes(7), Bound::Includes(3)),
+            WRONG_VARIABLE,
+        ),
     }
 }
 
@@ -233,7 +356,9 @@ fn damaged(k: usize) -> Case {
     match k {
         0 => refused(0, Question::And(0, 2), NOT_SOUND),
         1 => refused(0, Question::And(0, 8), NOT_SOUND),
-        _ => refused(0, Question::Boolean(64), NOT_SOUND),
+        2 => refused(0, Question::Boolean(64), NOT_SOUND),
+        3 => refused(0, Question::Restrict(8, 64, true), NOT_SOUND),
+        _ => refused(0, widen(0, Bound::Open, Bound::Open), NOT_SOUND),
     }
 }
 
@@ -241,6 +366,8 @@ fn other_memo(k: usize) -> Case {
     match k {
         0 => done(0, Question::Boolean(32), 2),
         1 => refused(0, Question::And(0, 2), WRONG_ROOM),
-        _ => refused(0, Question::And(0, 8), WRONG_ROOM),
+        2 => refused(0, Question::And(0, 8), WRONG_ROOM),
+        3 => refused(0, Question::Restrict(2, 0, true), WRONG_ROOM),
+        _ => refused(0, narrow(0, Bound::Open, Bound::Open), WRONG_ROOM),
     }
 }

@@ -1,6 +1,5 @@
-// Runs the cases of document 01, "Ids from a fresh table", on lent tables: C1 to C13 and C16, and refusals that go before a shortcut. A
-// line a case: what was asked, what the kernel answered, and whether that is what the document says. C14 and C15 come with narrowing and
-// widening.
+// Runs the cases of document 01, "Ids from a fresh table", on lent tables: C1 to C16, examples of restriction, narrowing and widening, and
+// refusals that go before a shortcut. A line a case: what was asked, what the kernel answered, and whether that is what the document says.
 mod asking;
 mod lists;
 mod questions;

@@ -11,6 +11,10 @@ pub enum Question {
     Boolean(u32),
     And(u32, u32),
     Or(u32, u32),
+    // An id, a variable, and a value or two bounds.
+    Restrict(u32, u32, bool),
+    Narrow(u32, u32, Bound, Bound),
+    Widen(u32, u32, Bound, Bound),
     Disjoint(u32, u32),
     Read(u32, u64),
     // The edges of a node's record, and the cut of its first.
@@ -21,9 +25,10 @@ pub enum Question {
     AllEdges,
 }
 
+// A call that makes nodes, one that is lent a memo too, one that says yes or no, or a count.
 pub enum Kind {
     Makes,
-    Joins,
+    Works,
     Tells,
     Counts,
 }
@@ -33,8 +38,11 @@ pub fn kind_of(q: Question) -> Kind {
         Question::Compare(v, op, key) => Kind::Makes,
         Question::Between(v, lower, upper) => Kind::Makes,
         Question::Boolean(v) => Kind::Makes,
-        Question::And(x, y) => Kind::Joins,
-        Question::Or(x, y) => Kind::Joins,
+        Question::And(x, y) => Kind::Works,
+        Question::Or(x, y) => Kind::Works,
+        Question::Restrict(id, v, value) => Kind::Works,
+        Question::Narrow(id, v, lower, upper) => Kind::Works,
+        Question::Widen(id, v, lower, upper) => Kind::Works,
         Question::Disjoint(x, y) => Kind::Tells,
         Question::Read(id, place) => Kind::Tells,
         _ => Kind::Counts,
@@ -82,6 +90,10 @@ fn show_variable(v: u32) {
         show::text(b"a");
     } else if v == 33 {
         show::text(b"b");
+    } else if v == 34 {
+        show::text(b"c");
+    } else if v == 35 {
+        show::text(b"d");
     } else {
         show::named(b"variable ", v);
     }
@@ -133,6 +145,36 @@ fn show_pair(x: u32, name: &[u8], y: u32) {
     show::id(y);
 }
 
+fn show_restricted(id: u32, v: u32, value: bool) {
+    show::id(id);
+    show::text(b" restricted to ");
+    if !value {
+        show::text(b"not ");
+    }
+    show_variable(v);
+}
+
+fn show_changed(id: u32, name: &[u8], v: u32, lower: Bound, upper: Bound) {
+    show::id(id);
+    show::text(name);
+    show_between(v, lower, upper);
+}
+
+fn show_change(q: Question) {
+    match q {
+        Question::Restrict(id, v, value) => show_restricted(id, v, value),
+        Question::Narrow(id, v, lower, upper) => show_changed(
+            id,
+            b" narrowed to ",
+            v,
+            lower,
+            upper,
+        ),
+        Question::Widen(id, v, lower, upper) => show_changed(id, b" widened by ", v, lower, upper),
+        _ => show_look(q),
+    }
+}
+
 fn show_look(q: Question) {
     match q {
         Question::Edges(id) => show::named(b"edges of ", id),
@@ -151,6 +193,6 @@ pub fn show_question(q: Question) {
         Question::Or(x, y) => show_pair(x, b" or ", y),
         Question::Disjoint(x, y) => show_pair(x, b" disjoint with ", y),
         Question::Read(id, place) => show::reading(id, place),
-        _ => show_look(q),
+        _ => show_change(q),
     }
 }

@@ -9,8 +9,8 @@ use super::words::same_cuts;
 use table::calls::fresh;
 use table::told::DONE;
 
-// A fresh table in room that was full of 77s, with nine nodes at the end, and all of their words.
-fn show_table(c: Count, list: List) -> Count {
+// A fresh table in room that was full of 77s, with so many nodes at the end, and all of their words.
+fn show_table(c: Count, list: List, made: usize) -> Count {
     let mut nodes = [77u32; 64];
     let mut children = [77u32; 64];
     let mut cuts = [77i64; 64];
@@ -30,13 +30,15 @@ fn show_table(c: Count, list: List) -> Count {
         c,
         list,
     );
-    show_nodes(&nodes, &children, &cuts, 9);
+    show_nodes(&nodes, &children, &cuts, made);
     c
 }
 
 pub fn shown(c: Count) -> Count {
-    let c = show_table(c, List::First);
-    show_table(c, List::Merged)
+    let c = show_table(c, List::First, 9);
+    let c = show_table(c, List::Merged, 9);
+    let c = show_table(c, List::Widened, 4);
+    show_table(c, List::Restricted, 13)
 }
 
 // An empty table with room for 4 nodes and 12 edges is asked a list; then the spare word of its first record is set to `spare`, and a list
