@@ -7,7 +7,8 @@ Strips `requires {..}`, `ensures {..}`, `invariant {..}`, `decreases {..}`/`vari
 #[derive(Clone, Copy)] (Rattle's are plain data)."""
 import os, re, sys
 
-CRATES = ("ids", "ranges", "table", "making", "conditions", "views", "disjointness", "conjunction", "kernel")
+CRATES = ("ids", "ranges", "table", "making", "conditions", "views", "walks", "clipping", "disjointness", "conjunction",
+          "changes", "kernel")
 PATH = re.compile(r"(?<![\w:])(" + "|".join(CRATES) + ")::")
 CLAUSE = re.compile(r"(requires|ensures|invariant|decreases|variant|maintains)\b\s*\{")
 
