@@ -8,7 +8,6 @@ use lib.IntN.{ℤ}
 use mir.Syntax.{w32}
 use mir.Val.{toZ, ofZ, SFits}
 use mir.ValLaws.{toZ-ofZ}
-use borrow.Author.Tests.{le-ltb}
 use Rattle.ids.specs.Id.{flip}
 use Rattle.ids.specs.declared.NodeId.{NodeId}
 use Rattle.ranges.specs.Line.{top}
@@ -17,12 +16,12 @@ use Rattle.ranges.specs.declared.bounds.Comparison.{Comparison}
 use Rattle.ranges.specs.declared.spans.Range.{Range}
 use Rattle.ranges.specs.declared.spans.Compared.{Compared}
 use Rattle.ranges.specs.Holding.{Bounded, Compares}
-use Rattle.diagram.specs.Pieces.{last, cut, Reduced}
-use Rattle.diagram.specs.Table.{variables, firstBoolean, topOf, Table}
+use Rattle.diagram.specs.Pieces.{Reduced}
+use Rattle.diagram.specs.Table.{firstBoolean, topOf, Table}
 use Rattle.diagram.specs.Cofactor.{map}
 use Rattle.diagram.proofs.Readings.{range-top}
 use Rattle.algebra.specs.Making.{settle, create-node}
-use Rattle.algebra.specs.Conditions.{between, terminal, from-range, comparison, from-bool}
+use Rattle.algebra.specs.Conditions.{between, terminal, from-range, comparison}
 use Rattle.table.proofs.Laws.{clash}
 use Rattle.making.specs.declared.edges.Edges as built
 use Rattle.making.specs.declared.nodes.Head.{Head}
@@ -44,22 +43,6 @@ module _ (t : Table) {v : ℕ} (hv : v < firstBoolean) {es : built.Edges} (lo hi
 
   pub range-settles : settle t v (piecesOf es) ≡ create-node t v (map terminal (between lo hi (topOf v)))
   range-settles = terminals-settle t v (omega arith) es (b .0) (between lo hi (topOf v)) same reduced
-
--- The edges of a boolean.
-module _ (t : Table) {v : ℕ} (lv : firstBoolean ≤ v) (hv : v < variables) {es : built.Edges} (b : Building es × (piecesOf es ≡ cut 0 1 (last 1))) where
-  two : Reduced 0 (topOf v) (cut true 1 (last false))
-  two = rw (le-ltb v firstBoolean lv) (omega arith, omega arith, (λ q. clash q refl), omega arith)
-
-  same-two : piecesOf es ≡ map terminal (cut true 1 (last false))
-  unfolding map
-  same-two = b .1
-
-  pub bool-buildable : Buildable t v es
-  bool-buildable = terminals-buildable t v hv es (b .0) (cut true 1 (last false)) same-two two
-
-  pub bool-settles : settle t v (piecesOf es) ≡ from-bool t v
-  unfolding from-bool map
-  bool-settles = terminals-settle t v hv es (b .0) (cut true 1 (last false)) same-two two
 
 -- The positions between two bounds, and those of a comparison.
 pub range-wanted : (t : Table) (v : ℕ) {lower upper : Bound} {r : Range} → Bounded lower upper r → create-node t v (map terminal (between (r .first) (r .last) (topOf v))) ≡ from-range t v lower upper

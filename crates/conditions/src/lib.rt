@@ -17,6 +17,7 @@ use making::edges::Edges;
 use making::nodes::Head;
 use making::nodes::Made;
 use making::nodes::create_node;
+use making::nodes::create_pair;
 use ranges::bounds::Bound;
 use ranges::bounds::Comparison;
 use ranges::places::TOP;
@@ -144,16 +145,7 @@ pub fn from_bool(
     requires { ⌜ (Lent head (now nodes) (now children) (now cuts) (now index)) × (firstBoolean ≤ v) × (v < variables) ⌝ }
     ensures { λ r. ⌜ (Outcome head (from-bool (tableOf head (now (nodes .entry)) (now (children .entry)) (now (cuts .entry))) v) r (now (nodes .entry)) (now (children .entry)) (now (cuts .entry)) (now (nodes .exit)) (now (children .exit)) (now (cuts .exit)) (now (index .exit))) × (r .ok ≡ false → Untouched (now (nodes .entry)) (now (children .entry)) (now (cuts .entry)) (now (index .entry)) (now (nodes .exit)) (now (children .exit)) (now (cuts .exit)) (now (index .exit))) ⌝ }
 {
-    let high = Edge {
-        cut: 1,
-        child: NodeId::TRUE,
-        spare: 0,
-    };
-    let low = Edge {
-        cut: 1,
-        child: NodeId::FALSE,
-        spare: 0,
-    };
-    let es = few_edges(2, high, low, low);
-    create_node(nodes, children, cuts, index, head, v, es)
+    let high = NodeId::TRUE;
+    let low = NodeId::FALSE;
+    create_pair(nodes, children, cuts, index, head, v, high, low)
 }

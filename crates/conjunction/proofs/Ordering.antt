@@ -1,18 +1,14 @@
 -- The order in which the two sides are walked. Assumes nothing.
 use mathlib.Core.Path.{_≡_, refl, ap}
-use mathlib.Core.Bool.{Bool, true, false, cond, not, _&&_}
+use mathlib.Core.Bool.{Bool, false, not, _&&_}
 use mathlib.Core.List.{List}
 use Prim.Native.Nat.{ℕ, _≤_, _<_}
 use lib.Dec.{eqb}
 use lib.IntN.{ℤ}
 use borrow.Author.Tests.{lt-ltb, le-ltb}
-use Rattle.diagram.specs.Pieces.{last, cut}
 use Rattle.diagram.specs.Table.{firstBoolean, isRange}
-use Rattle.algebra.specs.Overlay.{merge}
 use Rattle.views.specs.declared.View.{View}
 use Rattle.views.specs.Seeing.{seen}
-use Rattle.making.specs.declared.edges.Edges as built
-use Rattle.making.specs.Building.{piecesOf}
 use Rattle.making.specs.declared.nodes.Head.{Head}
 use Rattle.making.specs.declared.nodes.Made.{Made}
 use Rattle.making.specs.Outcome.{tableOf}
@@ -32,10 +28,3 @@ module _ (h : Head) (nodes children : List ℕ) (cuts : List ℤ) (memo : List �
 
   pub by-tests : firstBoolean ≤ v → Stepped Entry h (both (not (eqb (a .count) (b .count))) (pairs n) (tableOf h nodes children cuts) v (seen children cuts v a 0) (seen children cuts v b 0)) m nodes children cuts memo nodes′ children′ cuts′ index′ memo′ → Stepped Entry h (both (not (isRange v) && not (eqb (a .count) (b .count))) (pairs n) (tableOf h nodes children cuts) v (seen children cuts v a 0) (seen children cuts v b 0)) m nodes children cuts memo nodes′ children′ cuts′ index′ memo′
   by-tests l c = becomes c (ap (λ (back : Bool). both back (pairs n) (tableOf h nodes children cuts) v (seen children cuts v a 0) (seen children cuts v b 0)) (bool-order v l (not (eqb (a .count) (b .count)))))
-
--- The two answers as edges, high and low.
-pub pieces-back : (back : Bool) (es : built.Edges) (one two : ℕ) → back ≡ true → piecesOf es ≡ merge (cut two 1 (last one)) → piecesOf es ≡ merge (cut (cond back two one) 1 (last (cond back one two)))
-pieces-back back es one two e p = rw e p
-
-pub pieces-on : (back : Bool) (es : built.Edges) (one two : ℕ) → back ≡ false → piecesOf es ≡ merge (cut one 1 (last two)) → piecesOf es ≡ merge (cut (cond back two one) 1 (last (cond back one two)))
-pieces-on back es one two e p = rw e p

@@ -1,6 +1,7 @@
 // The pair walk and the edge merge, which call each other; the number of variables still ahead falls.
-ghost use mathlib.Core.Bool.{false, not, _&&_};
-ghost use Prim.Native.Nat.{_≤_, _<_};
+ghost use mathlib.Core.Path.{_≡_};
+ghost use mathlib.Core.Bool.{false, cond, not, _&&_};
+ghost use Prim.Native.Nat.{_<_};
 ghost use lib.Dec.{eqb};
 ghost use Rattle.diagram.specs.Table.{firstBoolean, isRange};
 ghost use Rattle.algebra.specs.Conjunction.{conj};
@@ -12,11 +13,11 @@ use super::opening::opened;
 use ids::NodeId;
 use making::edges::Edge;
 use making::edges::Edges;
-use making::edges::pair_of;
 use making::edges::slot_for;
 use making::nodes::Head;
 use making::nodes::Made;
 use making::nodes::create_node;
+use making::nodes::create_pair;
 use table::limits::FIRST_BOOLEAN;
 use views::View;
 use views::child;
@@ -67,6 +68,8 @@ pub fn conjoin(
 }
 
 // The node of variable v over both sides: "booleans high then low where both sides test the variable, low then high where only one does".
+// Booleans are walked here and not in a function of their own: then the compiler finds that `conjoin`, of which it makes this a part, calls
+// itself, and leaves the array of edges in the frame of `create_pair`, where there is one of it and not one for each variable.
 fn apply(
     nodes: &mut [u32],
     children: &mut [u32],
@@ -86,19 +89,35 @@ fn apply(
         return apply_ranges(nodes, children, cuts, index, memo, head, a, b, v, ahead);
     }
     let back = a.count != b.count;
-    apply_booleans(
-        nodes,
-        children,
-        cuts,
-        index,
-        memo,
-        head,
-        a,
-        b,
-        v,
-        back,
-        ahead,
-    )
+    let x = child(children, a, edge_of(a.count, back));
+    let y = child(children, b, edge_of(b.count, back));
+    let m = conjoin(nodes, children, cuts, index, memo, head, x, y, ahead);
+    if !m.ok {
+        return m;
+    }
+    let one = m.id;
+    let now = m.head;
+    let x = child(children, a, edge_of(a.count, !back));
+    let y = child(children, b, edge_of(b.count, !back));
+    let m = conjoin(nodes, children, cuts, index, memo, now, x, y, ahead);
+    if !m.ok {
+        return m;
+    }
+    let two = m.id;
+    let now = m.head;
+    let high = first_unless(back, one, two);
+    let low = first_unless(back, two, one);
+    create_pair(nodes, children, cuts, index, now, v, high, low)
+}
+
+// The first of two ids, unless `back`: then the second.
+fn first_unless(back: bool, one: NodeId, two: NodeId) -> NodeId
+    ensures { λ r. ⌜ r .0 ≡ cond back (two .0) (one .0) ⌝ }
+{
+    if back {
+        return two;
+    }
+    one
 }
 
 // "Ranges left to right": one conjunction for each overlap, and its edge merged with the last one where their children agree.
@@ -156,43 +175,4 @@ fn apply_ranges(
     }
     out.len = len;
     create_node(nodes, children, cuts, index, now, v, out)
-}
-
-// The high children and the low ones, or, back, the low ones first.
-fn apply_booleans(
-    nodes: &mut [u32],
-    children: &mut [u32],
-    cuts: &mut [i64],
-    index: &mut [u32],
-    memo: &mut [u32],
-    head: Head,
-    a: View,
-    b: View,
-    v: usize,
-    back: bool,
-    ahead: usize,
-) -> Made
-    requires { ⌜ (Ready Entry head (now nodes) (now children) (now cuts) (now index) (now memo)) × (Sides (tableOf head (now nodes) (now children) (now cuts)) (head .edges) (now children) (now cuts) v ahead a b) × (firstBoolean ≤ v) ⌝ }
-    ensures { λ r. ⌜ Stepped Entry head (both back (pairs ahead) (tableOf head (now (nodes .entry)) (now (children .entry)) (now (cuts .entry))) v (seen (now (children .entry)) (now (cuts .entry)) v a 0) (seen (now (children .entry)) (now (cuts .entry)) v b 0)) r (now (nodes .entry)) (now (children .entry)) (now (cuts .entry)) (now (memo .entry)) (now (nodes .exit)) (now (children .exit)) (now (cuts .exit)) (now (index .exit)) (now (memo .exit)) ⌝ }
-{
-    let x = child(children, a, edge_of(a.count, back));
-    let y = child(children, b, edge_of(b.count, back));
-    let m = conjoin(nodes, children, cuts, index, memo, head, x, y, ahead);
-    if !m.ok {
-        return m;
-    }
-    let one = m.id;
-    let now = m.head;
-    let x = child(children, a, edge_of(a.count, !back));
-    let y = child(children, b, edge_of(b.count, !back));
-    let m = conjoin(nodes, children, cuts, index, memo, now, x, y, ahead);
-    if !m.ok {
-        return m;
-    }
-    let two = m.id;
-    let now = m.head;
-    if back {
-        return create_node(nodes, children, cuts, index, now, v, pair_of(two, one));
-    }
-    create_node(nodes, children, cuts, index, now, v, pair_of(one, two))
 }

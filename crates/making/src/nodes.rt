@@ -1,12 +1,15 @@
-// Finding a node, adding it, and `create_node`.
+// Finding a node, adding it, `create_node`, and `create_pair` for a boolean variable.
 ghost use mathlib.Core.Path.{_≡_};
 ghost use mathlib.Core.Bool.{false};
-ghost use Prim.Native.Nat.{ℕ, _+_, _*_, _/_, _<_, _≤_};
+ghost use Prim.Native.Nat.{ℕ, suc, _+_, _*_, _/_, _<_, _≤_};
 ghost use lib.ListN.{length};
 ghost use Rattle.ids.specs.Id.{sign};
-ghost use Rattle.algebra.specs.Making.{find as found, settle};
-ghost use Rattle.table.specs.Deciding.{Decides};
+ghost use Rattle.diagram.specs.Pieces.{last, cut};
+ghost use Rattle.diagram.specs.Table.{variables, firstBoolean};
+ghost use Rattle.diagram.specs.Sound.{Child};
 ghost use Rattle.diagram.specs.Room.{mostEdges};
+ghost use Rattle.algebra.specs.Making.{find as found, settle, create-node};
+ghost use Rattle.table.specs.Deciding.{Decides};
 ghost use Rattle.table.specs.Layout.{mostNodes, mostEdgeRoom, room};
 ghost use Rattle.table.specs.Lent.{Rules};
 ghost use Rattle.making.specs.Building.{Building, Matches, childIn, cutIn, nodeOf, hashIn, piecesOf};
@@ -15,6 +18,7 @@ ghost use Rattle.making.specs.Outcome.{Lent, Outcome, Untouched, Buildab
 use super::edges::Edges;
 use super::edges::hash_edges;
 use super::edges::key_of;
+use super::edges::pair_of;
 use super::edges::stored_cut;
 use ids::NodeId;
 use table::index::scaled;
@@ -218,4 +222,22 @@ pub fn create_node(
         id: NodeId(next.used as u32 * 2).negate(lead),
         head: next,
     }
+}
+
+// The id of boolean variable v over two children. Conjunction makes its boolean nodes by this call, so that the array of edges is on the
+// stack only while a node is made, and not once for each variable that the walk has gone down.
+pub fn create_pair(
+    nodes: &mut [u32],
+    children: &mut [u32],
+    cuts: &mut [i64],
+    index: &mut [u32],
+    head: Head,
+    v: usize,
+    high: NodeId,
+    low: NodeId,
+) -> Made
+    requires { ⌜ (Lent head (now nodes) (now children) (now cuts) (now index)) × (firstBoolean ≤ v) × (v < variables) × (Child (tableOf head (now nodes) (now children) (now cuts)) (suc v) (high .0)) × (Child (tableOf head (now nodes) (now children) (now cuts)) (suc v) (low .0)) ⌝ }
+    ensures { λ r. ⌜ (Outcome head (create-node (tableOf head (now (nodes .entry)) (now (children .entry)) (now (cuts .entry))) v (cut (high .0) 1 (last (low .0)))) r (now (nodes .entry)) (now (children .entry)) (now (cuts .entry)) (now (nodes .exit)) (now (children .exit)) (now (cuts .exit)) (now (index .exit))) × (r .ok ≡ false → Untouched (now (nodes .entry)) (now (children .entry)) (now (cuts .entry)) (now (index .entry)) (now (nodes .exit)) (now (children .exit)) (now (cuts .exit)) (now (index .exit))) ⌝ }
+{
+    create_node(nodes, children, cuts, index, head, v, pair_of(high, low))
 }

@@ -6,22 +6,17 @@ use Prim.Native.Nat.{ℕ, suc, _+_, _≤_, _<_}
 use native.Mathlib.Omega.{arith}
 use lib.ListN.{length}
 use lib.IntN.{ℤ}
-use borrow.Author.Tests.{le-ltb}
-use Rattle.diagram.specs.Pieces.{Pieces, last, cut, Each, Reduced, Rising}
-use Rattle.diagram.specs.Table.{variables, firstBoolean, topOf, Table}
+use Rattle.diagram.specs.Pieces.{Pieces, last, cut}
+use Rattle.diagram.specs.Table.{variables, firstBoolean, Table}
 use Rattle.diagram.specs.Sound.{Child}
 use Rattle.diagram.proofs.Continuing.{continues-child}
-use Rattle.algebra.specs.Overlay.{merge}
-use Rattle.algebra.specs.Making.{settle}
-use Rattle.algebra.proofs.Overlays.{reduced-merge, each-merge}
+use Rattle.algebra.specs.Making.{create-node}
 use Rattle.views.specs.declared.View.{View}
 use Rattle.views.specs.Seeing.{Asked, Inside, childSeen, seen}
 use Rattle.views.proofs.Sights.{childSeen-stays, inside-wider, known-used}
-use Rattle.making.specs.declared.edges.Edges as built
 use Rattle.making.specs.declared.nodes.Head.{Head}
 use Rattle.making.specs.declared.nodes.Made.{Made}
-use Rattle.making.specs.Building.{Building, piecesOf}
-use Rattle.making.specs.Outcome.{Outcome, Buildable, tableOf}
+use Rattle.making.specs.Outcome.{Outcome, tableOf}
 use Rattle.making.proofs.Kept.{edges-inside}
 use Rattle.walks.specs.Walking.{Note, Ready, Stepped, Sides, both}
 use Rattle.walks.proofs.Composing.{sound-of, grew, then, then-made, becomes, fails}
@@ -35,6 +30,14 @@ asked-kid h nodes children cuts {c = c} e k = record { known = known-used nodes 
 -- A view of old edges lies within the slices.
 pub inside-still : {P : Note} {h : Head} {nodes children : List ℕ} {cuts : List ℤ} {index memo : List ℕ} → Ready P h nodes children cuts index memo → {w : View} → Inside (h .edges) w → {n : ℕ} → n ≡ length children → Inside n w
 inside-still {h = h} r {w} i {n} e = inside-wider (h .edges) n w (omega (arith, edges-inside (r .lent))) i
+
+-- The half of a view that was read,
+pub half-of : (children : List ℕ) (w : View) (low : Bool) {i x : ℕ} → x ≡ childSeen children w i → i ≡ half (w .count) low → x ≡ childSeen children w (half (w .count) low)
+half-of children w low e q = e ∙ ap (childSeen children w) q
+
+-- also where a step was made before it was read.
+pub half-still : {P : Note} {h : Head} {want : Table × ℕ} {m : Made} {nodes children : List ℕ} {cuts : List ℤ} {memo nodes′ children′ : List ℕ} {cuts′ : List ℤ} {index′ memo′ : List ℕ} → Stepped P h want m nodes children cuts memo nodes′ children′ cuts′ index′ memo′ → (w : View) (low : Bool) {i x : ℕ} → Inside (h .edges) w → x ≡ childSeen children′ w i → i ≡ half (w .count) low → x ≡ childSeen children w (half (w .count) low)
+half-still {h = h} {children = children} {cuts = cuts} {children′ = children′} {cuts′ = cuts′} d w low k e q = half-of children′ w low e q ∙ childSeen-stays children children′ cuts cuts′ 0 (h .edges) w k (d .outcome .stays .child) (half (w .count) low) (half-inside (w .count) (k .some) low)
 
 module _ {v n : ℕ} (W : Walk v n) {h : Head} {nodes children : List ℕ} {cuts : List ℤ} {index memo : List ℕ} (r : Ready (W .note) h nodes children cuts index memo) {a b : View} (g : firstBoolean ≤ v)
     (s : Sides (tableOf h nodes children cuts) (h .edges) children cuts v n a b) (back : Bool) where
@@ -53,9 +56,6 @@ module _ {v n : ℕ} (W : Walk v n) {h : Head} {nodes children : List ℕ} {cuts
   abbrev whole : Table × ℕ
   whole = both back (W .f) t v (seen children cuts v a 0) (seen children cuts v b 0)
 
-  pub half-of : (c : View) (low : Bool) {i x : ℕ} → x ≡ childSeen children c i → i ≡ half (c .count) low → x ≡ childSeen children c (half (c .count) low)
-  half-of c low e q = e ∙ ap (childSeen children c) q
-
   pub first-asked : {x y : ℕ} → x ≡ (P back) .0 → y ≡ (P back) .1 → Asked t (h .used) n x × Asked t (h .used) n y
   first-asked {x} {y} ex ey =
       let k = pair-kids W (sound-of (r .lent)) g s back in
@@ -71,9 +71,6 @@ module _ {v n : ℕ} (W : Walk v n) {h : Head} {nodes children : List ℕ} {cuts
 
     abbrev t′ : Table
     t′ = tableOf (m .head) nodes′ children′ cuts′
-
-    pub half-still : (w : View) (low : Bool) {i x : ℕ} → Inside (h .edges) w → x ≡ childSeen children′ w i → i ≡ half (w .count) low → x ≡ childSeen children w (half (w .count) low)
-    half-still w low k e q = e ∙ (ap (childSeen children′ w) q ∙ childSeen-stays children children′ cuts cuts′ v (h .edges) w k (c .outcome .stays .child) (half (w .count) low) (half-inside (w .count) (k .some) low))
 
     pub second-asked : {x′ y′ : ℕ} → x′ ≡ (P (not back)) .0 → y′ ≡ (P (not back)) .1 → Asked t′ (m .head .used) n x′ × Asked t′ (m .head .used) n y′
     second-asked {x′} {y′} ex′ ey′ =
@@ -91,30 +88,24 @@ module _ {v n : ℕ} (W : Walk v n) {h : Head} {nodes children : List ℕ} {cuts
       pub second-fails : m′ .ok ≡ false → Stepped (W .note) h whole m′ nodes children cuts memo nodes″ children″ cuts″ index″ memo″
       second-fails bad = fails both-steps bad (second-before W (sound-of (r .lent)) g s back)
 
-      module _ (good′ : m′ .ok ≡ true) {one two : ℕ} (e₁ : one ≡ m .id .0) (e₂ : two ≡ m′ .id .0) {es : built.Edges} (building : Building es)
-          (pieces : piecesOf es ≡ merge (cut (high W (sound-of (r .lent)) g s back one two) 1 (last (low W (sound-of (r .lent)) g s back one two)))) where
+      -- The two answers as the children of the new node, high and low.
+      module _ (good′ : m′ .ok ≡ true) {i j : ℕ} (ei : i ≡ high W (sound-of (r .lent)) g s back (m .id .0) (m′ .id .0)) (ej : j ≡ low W (sound-of (r .lent)) g s back (m .id .0) (m′ .id .0)) where
         abbrev t″ : Table
         t″ = tableOf (m′ .head) nodes″ children″ cuts″
 
-        abbrev answers : Pieces ℕ
-        answers = cut (high W (sound-of (r .lent)) g s back (x₁ .1) (x₂ .1)) 1 (last (low W (sound-of (r .lent)) g s back (x₁ .1) (x₂ .1)))
+        is-high : i ≡ high W (sound-of (r .lent)) g s back (x₁ .1) (x₂ .1)
+        is-high = ei ∙ ap₂ (high W (sound-of (r .lent)) g s back) (c .outcome .id good) (both-steps .outcome .id good′)
 
-        as-answers : piecesOf es ≡ merge answers
-        as-answers = pieces ∙ ap₂ (λ (i j : ℕ). merge (cut (high W (sound-of (r .lent)) g s back i j) 1 (last (low W (sound-of (r .lent)) g s back i j)))) (e₁ ∙ c .outcome .id good) (e₂ ∙ both-steps .outcome .id good′)
+        is-low : j ≡ low W (sound-of (r .lent)) g s back (x₁ .1) (x₂ .1)
+        is-low = ej ∙ ap₂ (low W (sound-of (r .lent)) g s back) (c .outcome .id good) (both-steps .outcome .id good′)
 
-        rises : Rising 0 (topOf v) answers
-        rises = rw (le-ltb v firstBoolean g) (omega arith, omega arith, omega arith)
+        pub can-pair : Child t″ (suc v) i × Child t″ (suc v) j
+        can-pair =
+            let k = answer-kids W (sound-of (r .lent)) g s back in
+            subst (λ (u : Table). Child u (suc v) i × Child u (suc v) j) (sym (both-steps .outcome .table good′)) (subst (Child (x₂ .0) (suc v)) (sym is-high) (k .0), subst (Child (x₂ .0) (suc v)) (sym is-low) (k .1))
 
-        pub can-build : Buildable t″ v es
-        can-build = record {
-          building = building;
-          known = s .known;
-          reduced = subst (Reduced 0 (topOf v)) (sym as-answers) (reduced-merge 0 (topOf v) answers rises);
-          kids = subst (λ (u : Table). Each (Child u (suc v)) (piecesOf es)) (sym (both-steps .outcome .table good′)) (subst (Each (Child (x₂ .0) (suc v))) (sym as-answers) (each-merge (Child (x₂ .0) (suc v)) answers (answer-kids W (sound-of (r .lent)) g s back)));
-        }
+        wanted : create-node t″ v (cut i 1 (last j)) ≡ whole
+        wanted = ap₂ (λ (u : Table) (p : Pieces ℕ). create-node u v p) (both-steps .outcome .table good′) (ap₂ (λ (p q : ℕ). cut p 1 (last q)) is-high is-low) ∙ sym (both-halves W (sound-of (r .lent)) g s back)
 
-        wanted : settle t″ v (piecesOf es) ≡ whole
-        wanted = ap₂ (λ (u : Table) (p : Pieces ℕ). settle u v p) (both-steps .outcome .table good′) as-answers ∙ sym (both-halves W (sound-of (r .lent)) g s back)
-
-        pub built-it : {o : Made} {nodes‴ children‴ : List ℕ} {cuts‴ : List ℤ} {index‴ : List ℕ} → Outcome (m′ .head) (settle t″ v (piecesOf es)) o nodes″ children″ cuts″ nodes‴ children‴ cuts‴ index‴ → Stepped (W .note) h whole o nodes children cuts memo nodes‴ children‴ cuts‴ index‴ memo″
+        pub built-it : {o : Made} {nodes‴ children‴ : List ℕ} {cuts‴ : List ℤ} {index‴ : List ℕ} → Outcome (m′ .head) (create-node t″ v (cut i 1 (last j))) o nodes″ children″ cuts″ nodes‴ children‴ cuts‴ index‴ → Stepped (W .note) h whole o nodes children cuts memo nodes‴ children‴ cuts‴ index‴ memo″
         built-it o = becomes (then-made r both-steps (W .grows) o) wanted

@@ -1,14 +1,13 @@
--- `conditions::from_bool` meets its contract: `create_node` on a high and a low edge. Assumes nothing.
-use Rattle.conditions.proofs.Wanted.{bool-buildable, bool-settles, promised-as}
+-- `conditions::from_bool` meets its contract: `create_pair` on TRUE and FALSE. Assumes nothing.
+use mathlib.Core.Bool.{true, false}
 use borrow.Author.Needs.{needs}
+use Rattle.algebra.specs.Conditions.{from-bool}
+use Rattle.algebra.proofs.Conditioning.{child-terminal}
 use Rattle.conditions.proofs.from_bool.Statement.{statement}
 use Rattle.conditions.proofs.from_bool.Tie as tie
 
-few-edges-requires : tie.Need-few-edges-requires
-few-edges-requires c κs = search needs
-
-create-node-requires : tie.Need-create-node-requires
-create-node-requires c κs = ((c .before .before .before .before .before .before .before .before .pre .0), bool-buildable _ ((c .before .before .before .before .before .before .before .before .pre .1)) ((c .before .before .before .before .before .before .before .before .pre .2)) ((c .before .before .before .before .few-edges .ensures)))
+create-pair-requires : tie.Need-create-pair-requires
+create-pair-requires c κs = ((c .before .before .before .before .before .before .before .pre .0), (c .before .before .before .before .before .before .before .pre .1), (c .before .before .before .before .before .before .before .pre .2), child-terminal _ _ ((c .before .before .before .before .before .before .before .pre .2)) true, child-terminal _ _ ((c .before .before .before .before .before .before .before .pre .2)) false)
 
 same-length : tie.Need-same-length
 same-length c = search needs
@@ -23,14 +22,14 @@ same-length-4 : tie.Need-same-length-4
 same-length-4 c = search needs
 
 returns : tie.Need-returns
-returns c = promised-as ((c .before .before .before .before .before .before .before .create-node .ensures)) (bool-settles _ ((c .before .before .before .before .before .before .before .before .before .before .before .before .before .before .before .before .pre .1)) ((c .before .before .before .before .before .before .before .before .before .before .before .before .before .before .before .before .pre .2)) ((c .before .before .before .before .before .before .before .before .before .before .before .before .few-edges .ensures)))
+unfolding from-bool
+returns c = (c .before .before .before .before .before .before .before .create-pair .ensures)
 
 pub from-bool-spec : {M : Type 1} → statement M
 from-bool-spec =
     tie.close
     (tie.spec
-    few-edges-requires
-    create-node-requires
+    create-pair-requires
     same-length
     same-length-2
     same-length-3
