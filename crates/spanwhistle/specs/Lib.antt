@@ -1,0 +1,2 @@
+-- What the numbers of the calls for C mean. Assumes nothing.
+pub mod Numbers
