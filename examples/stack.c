@@ -1,0 +1,119 @@
+// How much stack does a call of the kernel take? Runs each kind of call on conditions over all 64 variables, on a stack of its own that
+// was painted, and looks how far the paint is gone. Ends with status 1 where a call took more than spanwhistle.h says. It shows what these
+// calls took with this compiler on this machine, and not that no call takes more. A figure has the frame of the calling function in it.
+#define _XOPEN_SOURCE 600
+#include "spanwhistle.h"
+#include <stdio.h>
+#include <stdlib.h>
+#include <string.h>
+#include <ucontext.h>
+
+#define ROOM 512u
+#define EDGES 2048u
+#define PAINT 0xA5
+
+static uint32_t nodes[SPANWHISTLE_NODE_WORDS(ROOM)], children[EDGES], index_words[SPANWHISTLE_INDEX_WORDS(ROOM)];
+static uint32_t memo[SPANWHISTLE_MEMO_WORDS(ROOM)];
+static int64_t cuts[EDGES], places[SPANWHISTLE_RANGE_VARIABLES];
+#define LENT nodes, SPANWHISTLE_NODE_WORDS(ROOM), children, EDGES, cuts, EDGES, index_words, SPANWHISTLE_INDEX_WORDS(ROOM)
+#define MEMO memo, SPANWHISTLE_MEMO_WORDS(ROOM)
+#define LAST_RANGE (SPANWHISTLE_RANGE_VARIABLES - 1)
+#define LAST_BOOLEAN (SPANWHISTLE_VARIABLES - 1)
+
+// Two conditions that no opening test settles at any variable but the last; and what a measured call returned and wrote.
+static uint32_t x = SPANWHISTLE_TRUE, y = SPANWHISTLE_FALSE, number, answer;
+static size_t used_nodes, used_edges;
+static unsigned char stack[1 << 20];
+static void must_be_done(const char *what, uint32_t told) {
+    if (told != SPANWHISTLE_DONE) {
+        printf("%s: refused with %u\n", what, (unsigned)told);
+        exit(1);
+    }
+}
+
+static uint32_t both(uint32_t a, uint32_t b) {
+    uint32_t id;
+    must_be_done("and", spanwhistle_and(LENT, MEMO, a, b, &id));
+    return id;
+}
+
+// Booleans, last first: x says that all are yes, y that an odd number is. Then ranges, last first: each below 0 for x, below 1 for y.
+static void build(void) {
+    uint32_t variable, a, b;
+    for (variable = SPANWHISTLE_VARIABLES; variable-- > SPANWHISTLE_RANGE_VARIABLES;) {
+        must_be_done("from_bool", spanwhistle_from_bool(LENT, variable, &a));
+        must_be_done("or", spanwhistle_or(LENT, MEMO, a, y, &b));
+        x = both(a, x);
+        y = both(b, spanwhistle_not(both(a, y)));
+    }
+    for (variable = SPANWHISTLE_RANGE_VARIABLES; variable-- > 0;) {
+        must_be_done("less_than", spanwhistle_less_than(LENT, variable, 0, &a));
+        must_be_done("less_than", spanwhistle_less_than(LENT, variable, 1, &b));
+        x = both(a, x);
+        y = both(b, y);
+    }
+}
+
+// The calls that are measured. `build` made calls before, so memcpy and memset are bound already, which takes stack of its own.
+#define CALL(name, ...) \
+    static void call_##name(void) { number = spanwhistle_##name(__VA_ARGS__); }
+CALL(and, LENT, MEMO, x, y, &answer)
+CALL(or, LENT, MEMO, x, y, &answer)
+CALL(restrict, LENT, MEMO, y, LAST_BOOLEAN, 1, &answer)
+CALL(narrow, LENT, MEMO, y, LAST_RANGE, SPANWHISTLE_INCLUDES, 0, SPANWHISTLE_INCLUDES, 5, &answer)
+CALL(widen, LENT, MEMO, y, LAST_RANGE, SPANWHISTLE_INCLUDES, -5, SPANWHISTLE_INCLUDES, 5, &answer)
+CALL(is_disjoint, LENT, x, y, &answer)
+CALL(equal, LENT, 0, 7, &answer)
+CALL(from_range, LENT, 0, SPANWHISTLE_INCLUDES, 7, SPANWHISTLE_EXCLUDES, 9, &answer)
+CALL(evaluate, LENT, places, SPANWHISTLE_RANGE_VARIABLES, 0, y, &answer)
+CALL(check, LENT, &used_nodes, &used_edges)
+CALL(fresh, LENT)
+CALL(from_bool, LENT, LAST_BOOLEAN, &answer)
+
+// What to run, in this order: from_bool stands behind fresh, so that it makes its node.
+static const struct {
+    const char *name;
+    void (*call)(void);
+    size_t enough;
+} calls[] = {
+    {"and", call_and, SPANWHISTLE_STACK_JOIN},
+    {"or", call_or, SPANWHISTLE_STACK_JOIN},
+    {"restrict", call_restrict, SPANWHISTLE_STACK_RESTRICT},
+    {"narrow", call_narrow, SPANWHISTLE_STACK_NARROW},
+    {"widen", call_widen, SPANWHISTLE_STACK_NARROW},
+    {"is_disjoint", call_is_disjoint, SPANWHISTLE_STACK_DISJOINT},
+    {"equal", call_equal, SPANWHISTLE_STACK_CONDITION},
+    {"from_range", call_from_range, SPANWHISTLE_STACK_CONDITION},
+    {"evaluate", call_evaluate, SPANWHISTLE_STACK_READ},
+    {"check", call_check, SPANWHISTLE_STACK_READ},
+    {"fresh", call_fresh, SPANWHISTLE_STACK_READ},
+    {"from_bool", call_from_bool, SPANWHISTLE_STACK_CONDITION},
+};
+
+// The bytes that a call wrote of a painted stack, from its top to the last one that is not paint.
+static size_t stack_of(void (*call)(void)) {
+    static ucontext_t here, there;
+    size_t kept = 0;
+    memset(stack, PAINT, sizeof stack);
+    must_be_done("getcontext", (uint32_t)getcontext(&there)); // 0 is done here too
+    there.uc_stack.ss_sp = stack;
+    there.uc_stack.ss_size = sizeof stack;
+    there.uc_link = &here;
+    makecontext(&there, call, 0);
+    must_be_done("swapcontext", (uint32_t)swapcontext(&here, &there));
+    while (kept < sizeof stack && stack[kept] == PAINT)
+        kept++;
+    return sizeof stack - kept;
+}
+
+int main(void) {
+    int status = 0;
+    build();
+    for (size_t i = 0; i < sizeof calls / sizeof calls[0]; i++) {
+        size_t took = stack_of(calls[i].call);
+        must_be_done(calls[i].name, number);
+        printf("%-12s %7zu bytes of stack, of %zu\n", calls[i].name, took, calls[i].enough);
+        status |= took > calls[i].enough;
+    }
+    return status;
+}
