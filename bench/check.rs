@@ -1,206 +1,13 @@
-// The speed of the check of a lent table, on full tables, small ones, empty ones, and tables built to be slow; ops.rs has that of the
+// The speed of the check of a lent table, on full tables, small ones, empty ones, and tables built to be slow; against.rs has that of the
 // operations. bench/run runs it.
-mod ops;
 mod shim;
+mod tables;
 #[cfg(stripped)]
 extern crate lent;
 use shim::check;
 use std::collections::{HashMap, HashSet};
-use std::hint::black_box;
 use std::time::{Duration, Instant};
-
-const A: u64 = 1640531527;
-const B: u64 = 805459861;
-const M: u64 = 1 << 32;
-const ZERO: u64 = 4294967297; // the level of cut 0
-
-struct Rng(u64);
-impl Rng {
-    fn next(&mut self) -> u64 {
-        self.0 = self.0.wrapping_add(0x9E3779B97F4A7C15);
-        let mut z = self.0;
-        z = (z ^ (z >> 30)).wrapping_mul(0xBF58476D1CE4E5B9);
-        z = (z ^ (z >> 27)).wrapping_mul(0x94D049BB133111EB);
-        z ^ (z >> 31)
-    }
-    fn below(&mut self, n: usize) -> usize {
-        (self.next() % n as u64) as usize
-    }
-}
-
-fn level(z: i64) -> u64 {
-    if z < -4294967296 || z > 4294967295 {
-        0
-    } else {
-        (z + 4294967297) as u64
-    }
-}
-fn mix(h: u64, c: u32, k: u64) -> u64 {
-    (h * A + c as u64 * B + k) % M
-}
-fn inv_a() -> u64 {
-    let mut x = 1u64;
-    for _ in 0..6 {
-        x = x.wrapping_mul(2u64.wrapping_sub(A.wrapping_mul(x))) % M;
-    }
-    assert_eq!(A * x % M, 1);
-    x
-}
-
-#[derive(Clone, PartialEq, Eq, Hash)]
-struct Node {
-    var: u32,
-    kids: Vec<u32>,
-    cuts: Vec<i64>,
-} // cuts.len() == kids.len(), the last 0
-
-fn hash(n: &Node) -> u64 {
-    let mut h = n.var as u64;
-    for (c, z) in n.kids.iter().zip(&n.cuts) {
-        h = mix(h, *c, level(*z));
-    }
-    h
-}
-
-#[derive(Clone)]
-struct Table {
-    nodes: Vec<u32>,
-    children: Vec<u32>,
-    cuts: Vec<i64>,
-    index: Vec<u32>,
-    used: usize,
-    edges: usize,
-}
-
-// Lays nodes out, and builds the index from its definition: the last of each bucket, the last before each node in its bucket.
-fn lay(list: &[Node], room: usize, eroom: usize) -> Table {
-    let mut t = Table {
-        nodes: vec![0; room * 4],
-        children: vec![0; eroom],
-        cuts: vec![0; eroom],
-        index: vec![0; room * 2],
-        used: list.len(),
-        edges: 0,
-    };
-    for (n, x) in list.iter().enumerate() {
-        t.nodes[n * 4] = x.var;
-        t.nodes[n * 4 + 1] = x.kids.len() as u32;
-        t.nodes[n * 4 + 2] = t.edges as u32;
-        for (c, z) in x.kids.iter().zip(&x.cuts) {
-            t.children[t.edges] = *c;
-            t.cuts[t.edges] = *z;
-            t.edges += 1;
-        }
-        let b = (hash(x) * room as u64 / M) as usize;
-        t.index[room + n] = t.index[b];
-        t.index[b] = n as u32 + 1;
-    }
-    t
-}
-
-fn rising(r: &mut Rng, many: usize) -> Vec<i64> {
-    let mut s = std::collections::BTreeSet::new();
-    while s.len() < many {
-        s.insert((r.next() % (1 << 33)) as i64 - (1 << 32));
-    }
-    s.into_iter().collect()
-}
-
-// Random sound nodes that fill room and edges exactly. Half booleans (2 edges), half ranges (2 to 10), or per `shape`.
-// order: false: by variable, descending; true: variables in no order (a child is any earlier node with a later variable).
-fn random(seed: u64, room: usize, edges: usize, mixed: bool) -> Vec<Node> {
-    let mut r = Rng(seed);
-    let mut left = edges;
-    let mut counts: Vec<usize> = vec![];
-    let mut vars: Vec<u32> = vec![];
-    for i in 0..room {
-        if i < room / 2 {
-            counts.push(2);
-            vars.push(63 - (i * 32 / (room / 2)) as u32);
-        } else {
-            counts.push(2 + r.below(9));
-            vars.push(31 - ((i - room / 2) * 32 / (room - room / 2)) as u32);
-        }
-    }
-    // exactly full
-    loop {
-        let sum: usize = counts.iter().sum();
-        if sum == left {
-            break;
-        }
-        let i = room / 2 + r.below(room - room / 2);
-        if sum < left && counts[i] < 64 {
-            counts[i] += 1
-        } else if sum > left && counts[i] > 2 {
-            counts[i] -= 1
-        }
-    }
-    left = 0;
-    let _ = left;
-    let mut order: Vec<usize> = (0..room).collect();
-    if mixed {
-        for i in (1..room).rev() {
-            let j = r.below(i + 1);
-            order.swap(i, j);
-        }
-    }
-    let mut seen = HashSet::new();
-    let mut list: Vec<Node> = vec![];
-    for &o in &order {
-        let mut var = vars[o];
-        let count = counts[o];
-        let mut tries = 0;
-        loop {
-            tries += 1;
-            if tries % 50 == 0 {
-                // too few distinct records of this variable here: an earlier variable
-                var = if var >= 32 {
-                    if var > 32 {
-                        var - 1
-                    } else {
-                        63
-                    }
-                } else if var > 0 {
-                    var - 1
-                } else {
-                    31
-                };
-            }
-            let from: Vec<u32> = list
-                .iter()
-                .enumerate()
-                .filter(|(_, x)| x.var > var)
-                .map(|(i, _)| i as u32)
-                .collect();
-            let mut kids: Vec<u32> = vec![];
-            while kids.len() < count {
-                let mut c = if from.is_empty() || r.below(4) == 0 {
-                    r.below(2) as u32
-                } else {
-                    (from[r.below(from.len())] + 1) * 2 + r.below(2) as u32
-                };
-                if kids.is_empty() {
-                    c &= !1;
-                }
-                if kids.last() != Some(&c) {
-                    kids.push(c);
-                }
-            }
-            let mut cuts = if var < 32 {
-                rising(&mut r, count - 1)
-            } else {
-                vec![0; count - 1]
-            };
-            cuts.push(0);
-            let x = Node { var, kids, cuts };
-            if seen.insert(x.clone()) {
-                list.push(x);
-                break;
-            }
-        }
-    }
-    list
-}
+use tables::*;
 
 // The cuts that, as last cut of this prefix and before this last child, bring a node of `room` into bucket b, above `low`: the i-th found.
 struct Solver {
@@ -319,7 +126,7 @@ fn time(name: &str, t: &Table, want: u32, secs: f64) {
     while runs < 5 || start.elapsed().as_secs_f64() < secs {
         let a = Instant::now();
         for _ in 0..inner {
-            black_box(check(black_box(n), black_box(c), black_box(z), black_box(i)).number);
+            assert_eq!(check(n, c, z, i).number, want);
         }
         let d = a.elapsed();
         if d < Duration::from_micros(20) {
@@ -366,14 +173,8 @@ fn turns(name: &str, ts: &[Table], secs: f64) {
     while runs < 5 || start.elapsed().as_secs_f64() < secs {
         let a = Instant::now();
         for t in ts {
-            let r = check(
-                black_box(&t.nodes[..]),
-                black_box(&t.children[..]),
-                black_box(&t.cuts[..]),
-                black_box(&t.index[..]),
-            );
+            let r = check(&t.nodes, &t.children, &t.cuts, &t.index);
             assert!(r.number == 0);
-            black_box(r.edges);
         }
         best = best.min(a.elapsed());
         runs += 1;
@@ -397,10 +198,6 @@ fn main() {
             time(name, t, want, secs)
         }
     };
-    ops::all(secs, &filter);
-    if filter.starts_with('o') {
-        return;
-    }
     let (room, er) = (4096, 16384);
 
     let a1 = lay(&random(1, room, er, false), room, er);

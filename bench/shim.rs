@@ -1,127 +1,102 @@
 // What calls.txt exports, as Rust sees it. A slice goes as its address and its length, in two registers or two words of the stack.
+
+// Exports of calls that write: the four slices of the table, the memo where the call is lent one (`memo`), and their own arguments
+// between what all of a kind have.
+macro_rules! exports {
+    ($(public $name:ident($($memo:ident)?; $($arg:ident: $of:ty),*);)*
+     $(below $inner:ident($($scratch:ident)?; $($x:ident: $t:ty),*);)*) => {
+        extern "C" {
+            $(pub fn $name(
+                nodes: &mut [u32], children: &mut [u32], cuts: &mut [i64], index: &mut [u32], $($memo: &mut [u32],)?
+                $($arg: $of,)* id: &mut u32,
+            ) -> u32;)*
+            $(pub fn $inner(
+                nodes: &mut [u32], children: &mut [u32], cuts: &mut [i64], index: &mut [u32], $($scratch: &mut [u32],)?
+                used: usize, edges: usize, $($x: $t,)* id: &mut u32, used_now: &mut usize, edges_now: &mut usize,
+            ) -> bool;)*
+        }
+    };
+}
+
+exports! {
+    public lent_compare(; v: u32, op: u32, key: i32);
+    public lent_range(; v: u32, lower: u32, low: i32, upper: u32, high: i32);
+    public lent_bool(; v: u32);
+    public lent_and(memo; x: u32, y: u32);
+    public lent_or(memo; x: u32, y: u32);
+    public lent_restrict(memo; x: u32, v: u32, value: bool);
+    public lent_narrow(memo; x: u32, v: u32, lower: u32, low: i32, upper: u32, high: i32);
+    public lent_widen(memo; x: u32, v: u32, lower: u32, low: i32, upper: u32, high: i32);
+    below below_compare(; v: usize, op: u32, key: i32);
+    below below_range(; v: usize, lower: u32, low: i32, upper: u32, high: i32);
+    below below_bool(; v: usize);
+    below below_and(memo; x: u32, y: u32);
+    below below_or(memo; x: u32, y: u32);
+    below below_restrict(memo; x: u32, v: usize, value: bool);
+    below below_narrow(memo; x: u32, v: usize, lower: u32, low: i32, upper: u32, high: i32);
+    below below_widen(memo; x: u32, v: usize, lower: u32, low: i32, upper: u32, high: i32);
+    below bare_and(memo; x: u32, y: u32);
+}
+
+/// `or` of the walk alone, by negation.
+pub unsafe fn bare_or(
+    nodes: &mut [u32],
+    children: &mut [u32],
+    cuts: &mut [i64],
+    index: &mut [u32],
+    memo: &mut [u32],
+    used: usize,
+    edges: usize,
+    x: u32,
+    y: u32,
+    id: &mut u32,
+    used_now: &mut usize,
+    edges_now: &mut usize,
+) -> bool {
+    let (x, y) = (x ^ 1, y ^ 1);
+    let ok = bare_and(
+        nodes, children, cuts, index, memo, used, edges, x, y, id, used_now, edges_now,
+    );
+    *id ^= 1;
+    ok
+}
+
 extern "C" {
     fn lent_check(
-        n: &[u32],
-        c: &[u32],
-        z: &[i64],
-        i: &[u32],
+        nodes: &[u32],
+        children: &[u32],
+        cuts: &[i64],
+        index: &[u32],
         used: &mut usize,
         edges: &mut usize,
     ) -> u32;
     pub fn lent_evaluate(
-        n: &[u32],
-        c: &[u32],
-        z: &[i64],
-        i: &[u32],
+        nodes: &[u32],
+        children: &[u32],
+        cuts: &[i64],
+        index: &[u32],
         places: &[i64],
         bools: u32,
         id: u32,
         yes: &mut bool,
     ) -> u32;
-    pub fn lent_and(
-        n: &mut [u32],
-        c: &mut [u32],
-        z: &mut [i64],
-        i: &mut [u32],
-        m: &mut [u32],
-        x: u32,
-        y: u32,
-        id: &mut u32,
-    ) -> u32;
-    pub fn lent_or(
-        n: &mut [u32],
-        c: &mut [u32],
-        z: &mut [i64],
-        i: &mut [u32],
-        m: &mut [u32],
-        x: u32,
-        y: u32,
-        id: &mut u32,
-    ) -> u32;
     pub fn lent_disjoint(
-        n: &[u32],
-        c: &[u32],
-        z: &[i64],
-        i: &[u32],
+        nodes: &[u32],
+        children: &[u32],
+        cuts: &[i64],
+        index: &[u32],
         x: u32,
         y: u32,
         yes: &mut bool,
     ) -> u32;
-    pub fn lent_compare(
-        n: &mut [u32],
-        c: &mut [u32],
-        z: &mut [i64],
-        i: &mut [u32],
-        v: u32,
-        op: u32,
-        key: i32,
-        id: &mut u32,
-    ) -> u32;
-    pub fn lent_bool(
-        n: &mut [u32],
-        c: &mut [u32],
-        z: &mut [i64],
-        i: &mut [u32],
-        v: u32,
-        id: &mut u32,
-    ) -> u32;
-    pub fn below_and(
-        n: &mut [u32],
-        c: &mut [u32],
-        z: &mut [i64],
-        i: &mut [u32],
-        m: &mut [u32],
+    pub fn below_disjoint(
+        nodes: &[u32],
+        children: &[u32],
+        cuts: &[i64],
         used: usize,
-        edges: usize,
         x: u32,
         y: u32,
-        id: &mut u32,
-        u: &mut usize,
-        e: &mut usize,
     ) -> bool;
-    pub fn below_or(
-        n: &mut [u32],
-        c: &mut [u32],
-        z: &mut [i64],
-        i: &mut [u32],
-        m: &mut [u32],
-        used: usize,
-        edges: usize,
-        x: u32,
-        y: u32,
-        id: &mut u32,
-        u: &mut usize,
-        e: &mut usize,
-    ) -> bool;
-    pub fn bare_and(
-        n: &mut [u32],
-        c: &mut [u32],
-        z: &mut [i64],
-        i: &mut [u32],
-        m: &mut [u32],
-        used: usize,
-        edges: usize,
-        x: u32,
-        y: u32,
-        id: &mut u32,
-        u: &mut usize,
-        e: &mut usize,
-    ) -> bool;
-    pub fn below_compare(
-        n: &mut [u32],
-        c: &mut [u32],
-        z: &mut [i64],
-        i: &mut [u32],
-        used: usize,
-        edges: usize,
-        v: usize,
-        op: u32,
-        key: i32,
-        id: &mut u32,
-        u: &mut usize,
-        e: &mut usize,
-    ) -> bool;
-    pub fn below_disjoint(n: &[u32], c: &[u32], z: &[i64], used: usize, x: u32, y: u32) -> bool;
 }
 
 pub struct Checked {
