@@ -97,6 +97,17 @@ static void deliver(const uint32_t rules[RULES]) {
     }
 }
 
+// A comparison and its opposite are one node, seen two ways: their ids differ in the lowest bit.
+static void oppose(void) {
+    uint32_t id, other;
+    must_be("less_equal", spanwhistle_less_equal(SPANWHISTLE_LENT(forecourt), TEMPERATURE, 15, &id), SPANWHISTLE_DONE);
+    must_be("greater_than", spanwhistle_greater_than(SPANWHISTLE_LENT(forecourt), TEMPERATURE, 15, &other), SPANWHISTLE_DONE);
+    must_be("above 15 is the opposite of at most 15", other, spanwhistle_not(id));
+    must_be("equal", spanwhistle_equal(SPANWHISTLE_LENT(forecourt), TEMPERATURE, 15, &id), SPANWHISTLE_DONE);
+    must_be("not_equal", spanwhistle_not_equal(SPANWHISTLE_LENT(forecourt), TEMPERATURE, 15, &other), SPANWHISTLE_DONE);
+    must_be("not 15 is the opposite of 15", other, spanwhistle_not(id));
+}
+
 // One bit of one word is turned, as a bad cell of memory would: the next call says 2, with FALSE as its id. Then the bit is turned back.
 static void damage(const uint32_t rules[RULES]) {
     uint32_t id, number;
@@ -134,6 +145,7 @@ int main(void) {
     build(rules);
     compare(rules);
     deliver(rules);
+    oppose();
     damage(rules);
     fill();
     return 0;

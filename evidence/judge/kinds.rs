@@ -1,4 +1,4 @@
-//! The kinds of sequences. Each begins with what is lent; the first letters a to e are those of docs/TESTING.md.
+//! The kinds of sequences (docs/TESTING.md, "Runs against the Rust"). Each begins with what is lent.
 
 use std::ops::Bound;
 

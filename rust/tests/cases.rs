@@ -2,7 +2,7 @@
 mod lent;
 use lent::{id, memo_of, Memory, A, B, X};
 use spanwhistle::Bound::{Excludes, Includes, Open};
-use spanwhistle::Comparison::{Equal, GreaterEqual, LessEqual, LessThan, NotEqual};
+use spanwhistle::Comparison::{Equal, GreaterEqual, GreaterThan, LessEqual, LessThan, NotEqual};
 use spanwhistle::{place, NodeId, Reading, Refusal, Room, Used, HIGHEST_PLACE, LOWEST_PLACE};
 
 const ROOM: Room = Room {
@@ -18,6 +18,8 @@ fn after_c11() -> Memory {
     assert_eq!(table.from_comparison(X, LessThan, 5), Ok(id(2)), "C1");
     assert_eq!(table.from_comparison(X, GreaterEqual, 5), Ok(id(3)), "C2");
     assert_eq!(table.from_comparison(X, LessEqual, 5), Ok(id(4)), "C3");
+    let above = table.from_comparison(X, GreaterThan, 5);
+    assert_eq!(above, Ok(id(5)), "the opposite of C3");
     assert_eq!(table.and(&mut memo, id(2), id(3)), Ok(NodeId::FALSE), "C4");
     assert_eq!(table.and(&mut memo, id(2), id(4)), Ok(id(2)), "C5");
     assert_eq!(table.and(&mut memo, id(3), id(4)), Ok(id(7)), "C6");
