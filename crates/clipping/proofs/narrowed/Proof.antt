@@ -16,9 +16,6 @@ Inv-loop children cuts a low high out₀ i₀ len₀ more₀ out i len more = Co
 abbrev μ-loop : tie.MeasureT-loop
 μ-loop children cuts a low high out₀ i₀ len₀ more₀ out i len more = a .count - i
 
-new-requires : tie.Need-new-requires Inv-loop μ-loop
-new-requires c κs = search needs
-
 first-past-requires : tie.Need-first-past-requires Inv-loop μ-loop
 first-past-requires c κs = (inside-wider _ _ (c .before .before .args .a) (omega (arith, (c .before .before .pre .1))) (c .before .before .pre .0), omega (arith, (c .before .before .pre .2)))
 
@@ -60,7 +57,7 @@ narrowed-spec =
     (tie.spec
     Inv-loop
     μ-loop
-    new-requires
+    (λ c κs. search needs)
     first-past-requires
     loop-holds
     cut-requires

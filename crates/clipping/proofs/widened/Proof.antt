@@ -19,14 +19,8 @@ abbrev μ-loop : tie.MeasureT-loop
 add-end : tie.Need-add-end Inv-loop μ-loop
 add-end c = omega (arith, (c .before .pre .3))
 
-new-requires : tie.Need-new-requires Inv-loop μ-loop
-new-requires c κs = search needs
-
 element-set-from-out : tie.Need-element-set-from-out Inv-loop μ-loop
 element-set-from-out c = omega (arith, (c .new .ensures .0))
-
-front-requires : tie.Need-front-requires Inv-loop μ-loop
-front-requires c κs = search needs
 
 first-past-requires : tie.Need-first-past-requires Inv-loop μ-loop
 first-past-requires c κs = (inside-wider _ _ (c .before .before .before .args .a) (omega (arith, (c .before .before .before .pre .1))) (c .before .before .before .pre .0), omega (arith, (c .before .before .before .pre .2), (c .before .before .before .pre .3)))
@@ -40,14 +34,8 @@ child-requires c κs = ((c .before .before .before .before .before .before .pre 
 cut-requires : tie.Need-cut-requires Inv-loop μ-loop
 cut-requires c κs = (inside-wider _ _ (c .before .before .before .before .before .before .before .args .a) (omega (arith, (c .before .before .before .before .before .before .before .pre .1))) (c .before .before .before .before .before .before .before .pre .0), (c .before .before .loop .inv .going) (c .before .loop-test .taken) .0)
 
-slot-for-requires : tie.Need-slot-for-requires Inv-loop μ-loop
-slot-for-requires c κs = search needs
-
 returns : tie.Need-returns Inv-loop μ-loop
 returns c = widened-wanted (now (c .before .before .before .before .before .before .before .before .before .before .args .children)) (now (c .before .before .before .before .before .before .before .before .before .before .args .cuts)) (c .before .before .before .before .before .before .before .before .before .before .args .a) (c .before .before .before .before .before .before .before .before .before .before .args .range .first) _ (c .before .before .before .before .before .before .before .before .before .before .args .range .last) (omega arith) (c .before .before .before .before .before .before .before .before .before .before .pre .2) (c .before .before .before .before .before .before .before .before .before .before .pre .3) (clips-over (widen-over (c .before .before .before .before .before .loop .inv) (c .before .before .before .before .loop-test .taken) (c .before .before .before .child .ensures) (c .before .slot-for .ensures) (omega arith)))
-
-nearer-requires : tie.Need-nearer-requires Inv-loop μ-loop
-nearer-requires c κs = search needs
 
 mul-t25 : tie.Need-mul-t25 Inv-loop μ-loop
 mul-t25 c = omega arith
@@ -80,16 +68,16 @@ widened-spec =
     Inv-loop
     μ-loop
     add-end
-    new-requires
+    (λ c κs. search needs)
     element-set-from-out
-    front-requires
+    (λ c κs. search needs)
     first-past-requires
     loop-holds
     child-requires
     cut-requires
-    slot-for-requires
+    (λ c κs. search needs)
     returns
-    nearer-requires
+    (λ c κs. search needs)
     mul-t25
     element-set-from-out-2
     add-len

@@ -8,12 +8,6 @@ use borrow.Author.Needs.{needs}
 use Rattle.conditions.proofs.edges_of.Statement.{statement}
 use Rattle.conditions.proofs.edges_of.Tie as tie
 
-add-t8 : tie.Need-add-t8
-add-t8 c = search needs
-
-few-edges-requires : tie.Need-few-edges-requires
-few-edges-requires c κs = search needs
-
 returns : tie.Need-returns
 returns c = ((c .few-edges .ensures .0), (c .few-edges .ensures .1) ∙ empty-range _ _ _ ((c .before .if1 .taken)))
 
@@ -36,8 +30,8 @@ pub edges-of-spec : {M : Type 1} → statement M
 edges-of-spec =
     tie.close
     (tie.spec
-    add-t8
-    few-edges-requires
+    (λ c. search needs)
+    (λ c κs. search needs)
     returns
     few-edges-requires-2
     returns-2

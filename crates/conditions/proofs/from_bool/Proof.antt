@@ -9,18 +9,6 @@ use Rattle.conditions.proofs.from_bool.Tie as tie
 create-pair-requires : tie.Need-create-pair-requires
 create-pair-requires c κs = ((c .before .before .before .before .before .before .before .pre .0), (c .before .before .before .before .before .before .before .pre .1), (c .before .before .before .before .before .before .before .pre .2), child-terminal _ _ ((c .before .before .before .before .before .before .before .pre .2)) true, child-terminal _ _ ((c .before .before .before .before .before .before .before .pre .2)) false)
 
-same-length : tie.Need-same-length
-same-length c = search needs
-
-same-length-2 : tie.Need-same-length-2
-same-length-2 c = search needs
-
-same-length-3 : tie.Need-same-length-3
-same-length-3 c = search needs
-
-same-length-4 : tie.Need-same-length-4
-same-length-4 c = search needs
-
 returns : tie.Need-returns
 unfolding from-bool
 returns c = (c .before .before .before .before .before .before .before .create-pair .ensures)
@@ -30,8 +18,8 @@ from-bool-spec =
     tie.close
     (tie.spec
     create-pair-requires
-    same-length
-    same-length-2
-    same-length-3
-    same-length-4
+    (λ c. search needs)
+    (λ c. search needs)
+    (λ c. search needs)
+    (λ c. search needs)
     returns)

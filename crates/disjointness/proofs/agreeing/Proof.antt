@@ -5,14 +5,8 @@ use borrow.Author.Needs.{needs}
 use Rattle.disjointness.proofs.agreeing.Statement.{statement}
 use Rattle.disjointness.proofs.agreeing.Tie as tie
 
-is-true-requires : tie.Need-is-true-requires
-is-true-requires c κs = search needs
-
 returns : tie.Need-returns
 returns c = or-first _ _ (sym ((c .before .is-true .ensures)) ∙ (c .if1 .taken))
-
-is-true-requires-2 : tie.Need-is-true-requires-2
-is-true-requires-2 c κs = search needs
 
 returns-2 : tie.Need-returns-2
 returns-2 c = or-rest _ _ _ (sym ((c .before .before .before .is-true .ensures)) ∙ (c .before .before .if1 .left)) (or-first _ _ (sym ((c .before .is-true2 .ensures)) ∙ (c .if2 .taken)))
@@ -22,4 +16,4 @@ returns-3 c = or-rest _ _ _ (sym ((c .before .before .before .before .before .is
 
 pub agreeing-spec : {M : Type 1} → statement M
 agreeing-spec =
-    tie.close (tie.spec is-true-requires returns is-true-requires-2 returns-2 returns-3)
+    tie.close (tie.spec (λ c κs. search needs) returns (λ c κs. search needs) returns-2 returns-3)

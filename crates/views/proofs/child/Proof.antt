@@ -17,15 +17,9 @@ add-child-at c = record { fits = omega (arith, (c .before .before .before .befor
 child-at-requires : tie.Need-child-at-requires
 child-at-requires c κs = omega (arith, (c .before .before .before .before .pre .1), (c .before .before .before .before .pre .0 .within) (one-more ((c .before .before .before .before .pre .0 .some)) ((c .if1 .left))))
 
-cast-t9 : tie.Need-cast-t9
-cast-t9 c = search needs
-
-negate-requires : tie.Need-negate-requires
-negate-requires c κs = search needs
-
 returns-2 : tie.Need-returns-2
 returns-2 c = (c .negate .ensures) ∙ (ap (under (sign ((c .before .before .before .before .before .before .args .w .id .0)))) ((c .before .child-at .ensures .0)) ∙ sym (childSeen-kid (now ((c .before .before .before .before .before .before .args .children))) ((c .before .before .before .before .before .before .args .w)) ((c .before .before .before .before .before .before .args .j)) ((c .before .before .if1 .left))))
 
 pub child-spec : {M : Type 1} → statement M
 child-spec =
-    tie.close (tie.spec returns add-child-at child-at-requires cast-t9 negate-requires returns-2)
+    tie.close (tie.spec returns add-child-at child-at-requires (λ c. search needs) (λ c κs. search needs) returns-2)

@@ -7,9 +7,6 @@ use borrow.Author.Needs.{needs}
 use Rattle.views.proofs.cut.Statement.{statement}
 use Rattle.views.proofs.cut.Tie as tie
 
-add-if1 : tie.Need-add-if1
-add-if1 c = search needs
-
 add-level-at : tie.Need-add-level-at
 add-level-at c = record { fits = omega (arith, (c .if1 .taken), (c .before .before .pre .0 .within) (omega (arith, (c .if1 .taken)))) }
 
@@ -19,8 +16,5 @@ level-at-requires c κs = omega (arith, (c .if1 .taken), (c .before .before .pre
 returns : tie.Need-returns
 returns c = (λ h. (c .level-at .ensures .0) ∙ sym (cutSeen-level (now ((c .before .before .before .args .cuts))) ((c .before .before .before .args .w)) ((c .before .before .before .args .j))), λ h. absurd (omega (arith, (c .before .if1 .taken))), omega (arith, (c .level-at .ensures .1)))
 
-returns-2 : tie.Need-returns-2
-returns-2 c = search needs
-
 pub cut-spec : {M : Type 1} → statement M
-cut-spec = tie.close (tie.spec add-if1 add-level-at level-at-requires returns returns-2)
+cut-spec = tie.close (tie.spec (λ c. search needs) add-level-at level-at-requires returns (λ c. search needs))

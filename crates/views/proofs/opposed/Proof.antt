@@ -7,20 +7,11 @@ use borrow.Author.Needs.{needs}
 use Rattle.views.proofs.opposed.Statement.{statement}
 use Rattle.views.proofs.opposed.Tie as tie
 
-is-false-requires : tie.Need-is-false-requires
-is-false-requires c κs = search needs
-
 returns : tie.Need-returns
 returns c = or-first _ _ (sym ((c .before .is-false .ensures)) ∙ (c .if1 .taken))
 
-is-false-requires-2 : tie.Need-is-false-requires-2
-is-false-requires-2 c κs = search needs
-
 returns-2 : tie.Need-returns-2
 returns-2 c = or-rest _ _ _ (sym ((c .before .before .before .is-false .ensures)) ∙ (c .before .before .if1 .left)) (or-first _ _ (sym ((c .before .is-false2 .ensures)) ∙ (c .if2 .taken)))
-
-not-requires : tie.Need-not-requires
-not-requires c κs = search needs
 
 returns-3 : tie.Need-returns-3
 returns-3 c = or-rest _ _ _ (sym ((c .before .before .before .before .before .before .is-false .ensures)) ∙ (c .before .before .before .before .before .if1 .left)) (or-rest _ _ _ (sym ((c .before .before .before .before .is-false2 .ensures)) ∙ (c .before .before .before .if2 .left)) (ap (λ (z : ℕ). eqb z ((c .before .before .before .before .before .before .before .args .y .0))) ((c .before .before .not .ensures))))
@@ -28,4 +19,4 @@ returns-3 c = or-rest _ _ _ (sym ((c .before .before .before .before .before .be
 pub opposed-spec : {M : Type 1} → statement M
 opposed-spec =
     tie.close
-    (tie.spec is-false-requires returns is-false-requires-2 returns-2 not-requires returns-3)
+    (tie.spec (λ c κs. search needs) returns (λ c κs. search needs) returns-2 (λ c κs. search needs) returns-3)

@@ -8,41 +8,11 @@ use borrow.Author.Needs.{needs}
 use Rattle.changes.proofs.narrowing.narrow.Statement.{statement}
 use Rattle.changes.proofs.narrowing.narrow.Tie as tie
 
-zero-words-requires : tie.Need-zero-words-requires
-zero-words-requires c κs = search needs
-
-both-open-requires : tie.Need-both-open-requires
-both-open-requires c κs = search needs
-
-same-length : tie.Need-same-length
-same-length c = search needs
-
 returns : tie.Need-returns
 returns c = worked-still (c .before .before .before .before .before .before .before .before .before .before .pre .0) (c .before .before .before .before .before .before .before .before .before .before .args .memo .now) (c .before .before .before .before .zero-words .ensures) _ (narrow-all (c .before .before .before .before .before .before .before .before .before .before .pre .0) _ _ (c .before .before .before .before .before .before .before .before .before .before .pre .2) (c .before .before .before .before .before .before .before .before .before .before .pre .3) ((c .before .both-open .ensures) (c .if1 .taken)))
 
-from-bounds-requires : tie.Need-from-bounds-requires
-from-bounds-requires c κs = search needs
-
-add-narrow-from : tie.Need-add-narrow-from
-add-narrow-from c = search needs
-
 narrow-from-requires : tie.Need-narrow-from-requires
 narrow-from-requires c κs = (ready-zeroed (c .before .before .before .before .before .before .before .before .before .before .before .before .before .before .before .before .pre .0) (c .before .before .before .before .before .before .before .before .before .before .before .before .before .before .before .before .args .memo .now) (c .before .before .before .before .before .before .before .before .before .before .before .before .before .before .before .before .pre .1) (c .before .before .before .before .before .before .before .before .before .before .zero-words .ensures), asked-all (c .before .before .before .before .before .before .before .before .before .before .before .before .before .before .before .before .pre .2), (c .before .before .before .before .before .before .before .before .before .before .before .before .before .before .before .before .pre .3), (c .before .before .before .before .before .from-bounds .ensures .first-within), (c .before .before .before .before .before .from-bounds .ensures .last-within))
-
-finish-requires : tie.Need-finish-requires
-finish-requires c κs = search needs
-
-same-length-2 : tie.Need-same-length-2
-same-length-2 c = search needs
-
-same-length-3 : tie.Need-same-length-3
-same-length-3 c = search needs
-
-same-length-4 : tie.Need-same-length-4
-same-length-4 c = search needs
-
-same-length-5 : tie.Need-same-length-5
-same-length-5 c = search needs
 
 same-length-6 : tie.Need-same-length-6
 same-length-6 c = worked-long (c .before .before .before .before .before .before .before .before .before .before .before .before .before .before .before .before .before .before .before .before .before .before .before .before .before .before .before .before .before .before .before .before .before .before .before .before .before .before .before .before .before .pre .0) (c .before .before .before .before .before .before .before .before .before .before .before .before .before .before .before .before .before .before .before .before .before .before .before .before .before .before .before .before .before .before .before .before .before .before .before .before .before .before .before .before .before .args .memo .now) (c .before .before .before .before .before .before .before .before .before .before .before .before .before .before .before .before .before .before .before .before .before .before .before .before .before .before .before .before .before .before .before .before .before .before .before .zero-words .ensures) (c .before .before .before .before .before .before .before .before .before .before .before .before .before .before .before .before .before .before .before .before .before .before .before .before .narrow-from .ensures) (c .before .before .before .before .before .before .before .before .before .finish .ensures)
@@ -54,17 +24,17 @@ pub narrow-spec : {M : Type 1} → statement M
 narrow-spec =
     tie.close
     (tie.spec
-    zero-words-requires
-    both-open-requires
-    same-length
+    (λ c κs. search needs)
+    (λ c κs. search needs)
+    (λ c. search needs)
     returns
-    from-bounds-requires
-    add-narrow-from
+    (λ c κs. search needs)
+    (λ c. search needs)
     narrow-from-requires
-    finish-requires
-    same-length-2
-    same-length-3
-    same-length-4
-    same-length-5
+    (λ c κs. search needs)
+    (λ c. search needs)
+    (λ c. search needs)
+    (λ c. search needs)
+    (λ c. search needs)
     same-length-6
     returns-2)

@@ -9,12 +9,6 @@ use borrow.Author.Needs.{needs}
 use Rattle.changes.proofs.restriction.chosen.Statement.{statement}
 use Rattle.changes.proofs.restriction.chosen.Tie as tie
 
-view-at-requires : tie.Need-view-at-requires
-view-at-requires c κs = search needs
-
-edge-of-requires : tie.Need-edge-of-requires
-edge-of-requires c κs = search needs
-
 child-requires : tie.Need-child-requires
 child-requires c κs = (views-inside _ _ _ _ _ _ _ (c .before .before .before .before .pre .0) (c .before .view-at .ensures), subst (λ (x : ℕ). x < (c .before .view-at .result .count)) (sym (c .edge-of .ensures)) (half-inside ((c .before .view-at .result .count)) ((c .before .view-at .ensures .inside .some)) (not (c .before .before .before .before .args .value))))
 
@@ -22,4 +16,4 @@ returns : tie.Need-returns
 returns c = chosen-is (c .before .before .before .before .before .pre .0) (c .before .before .before .before .before .pre .1) (c .before .before .before .before .before .pre .2) (c .before .before .before .before .before .pre .3) (c .before .before .view-at .ensures) ((c .before .before .before .before .before .args .value)) (c .child .ensures) (c .before .edge-of .ensures)
 
 pub chosen-spec : {M : Type 1} → statement M
-chosen-spec = tie.close (tie.spec view-at-requires edge-of-requires child-requires returns)
+chosen-spec = tie.close (tie.spec (λ c κs. search needs) (λ c κs. search needs) child-requires returns)

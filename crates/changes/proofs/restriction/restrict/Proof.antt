@@ -12,35 +12,11 @@ use borrow.Author.Needs.{needs}
 use Rattle.changes.proofs.restriction.restrict.Statement.{statement}
 use Rattle.changes.proofs.restriction.restrict.Tie as tie
 
-zero-words-requires : tie.Need-zero-words-requires
-zero-words-requires c κs = search needs
-
-same-length : tie.Need-same-length
-same-length c = search needs
-
 returns : tie.Need-returns
 returns c = worked-still ((c .before .before .before .before .before .before .before .before .before .pre .0)) ((c .before .before .before .before .before .before .before .before .before .args .memo .now)) ((c .before .before .before .zero-words .ensures)) _ (restrict-range (tableOf ((c .before .before .before .before .before .before .before .before .before .args .head)) ((c .before .before .before .before .before .before .before .before .before .args .nodes .now)) ((c .before .before .before .before .before .before .before .before .before .args .children .now)) ((c .before .before .before .before .before .before .before .before .before .args .cuts .now))) ((c .before .before .before .before .before .before .before .before .before .args .v)) ((c .before .before .before .before .before .before .before .before .before .args .value)) ((c .before .before .before .before .before .before .before .before .before .args .id .0)) (lt-ltb _ _ (c .if1 .taken)))
 
-add-restrict-from : tie.Need-add-restrict-from
-add-restrict-from c = search needs
-
 restrict-from-requires : tie.Need-restrict-from-requires
 restrict-from-requires c κs = (ready-zeroed ((c .before .before .before .before .before .before .before .before .before .before .before .before .before .before .pre .0)) ((c .before .before .before .before .before .before .before .before .before .before .before .before .before .before .args .memo .now)) ((c .before .before .before .before .before .before .before .before .before .before .before .before .before .before .pre .1)) ((c .before .before .before .before .before .before .before .before .zero-words .ensures)), asked-all ((c .before .before .before .before .before .before .before .before .before .before .before .before .before .before .pre .2)), omega arith, (c .before .before .before .before .before .before .before .before .before .before .before .before .before .before .pre .3))
-
-finish-requires : tie.Need-finish-requires
-finish-requires c κs = search needs
-
-same-length-2 : tie.Need-same-length-2
-same-length-2 c = search needs
-
-same-length-3 : tie.Need-same-length-3
-same-length-3 c = search needs
-
-same-length-4 : tie.Need-same-length-4
-same-length-4 c = search needs
-
-same-length-5 : tie.Need-same-length-5
-same-length-5 c = search needs
 
 same-length-6 : tie.Need-same-length-6
 same-length-6 c = worked-long ((c .before .before .before .before .before .before .before .before .before .before .before .before .before .before .before .before .before .before .before .before .before .before .before .before .before .before .before .before .before .before .before .before .before .before .before .before .before .before .before .pre .0)) ((c .before .before .before .before .before .before .before .before .before .before .before .before .before .before .before .before .before .before .before .before .before .before .before .before .before .before .before .before .before .before .before .before .before .before .before .before .before .before .before .args .memo .now)) ((c .before .before .before .before .before .before .before .before .before .before .before .before .before .before .before .before .before .before .before .before .before .before .before .before .before .before .before .before .before .before .before .before .before .zero-words .ensures)) ((c .before .before .before .before .before .before .before .before .before .before .before .before .before .before .before .before .before .before .before .before .before .before .before .before .restrict-from .ensures)) ((c .before .before .before .before .before .before .before .before .before .finish .ensures))
@@ -52,15 +28,15 @@ pub restrict-spec : {M : Type 1} → statement M
 restrict-spec =
     tie.close
     (tie.spec
-    zero-words-requires
-    same-length
+    (λ c κs. search needs)
+    (λ c. search needs)
     returns
-    add-restrict-from
+    (λ c. search needs)
     restrict-from-requires
-    finish-requires
-    same-length-2
-    same-length-3
-    same-length-4
-    same-length-5
+    (λ c κs. search needs)
+    (λ c. search needs)
+    (λ c. search needs)
+    (λ c. search needs)
+    (λ c. search needs)
     same-length-6
     returns-2)

@@ -7,11 +7,8 @@ use Rattle.changes.proofs.sights.is_before.Tie as tie
 returns : tie.Need-returns
 returns c = end-not-before (c .if1 .taken) (c .before .before .before .before .pre .2) _
 
-variable-requires : tie.Need-variable-requires
-variable-requires c κs = search needs
-
 returns-2 : tie.Need-returns-2
 returns-2 c = before-test _ _ _ _ (c .variable .ensures .0)
 
 pub is-before-spec : {M : Type 1} → statement M
-is-before-spec = tie.close (tie.spec returns variable-requires returns-2)
+is-before-spec = tie.close (tie.spec returns (λ c κs. search needs) returns-2)

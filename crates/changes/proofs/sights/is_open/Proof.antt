@@ -5,18 +5,6 @@ use borrow.Author.Needs.{needs}
 use Rattle.changes.proofs.sights.is_open.Statement.{statement}
 use Rattle.changes.proofs.sights.is_open.Tie as tie
 
-enum-told : tie.Need-enum-told
-enum-told c = search needs
-
-enum-told-2 : tie.Need-enum-told-2
-enum-told-2 c = search needs
-
-enum-told-3 : tie.Need-enum-told-3
-enum-told-3 c = search needs
-
-returns : tie.Need-returns
-returns c = search needs
-
 returns-2 : tie.Need-returns-2
 returns-2 c = λ q. absurd (clash refl q)
 
@@ -24,4 +12,4 @@ returns-3 : tie.Need-returns-3
 returns-3 c = λ q. absurd (clash refl q)
 
 pub is-open-spec : {M : Type 1} → statement M
-is-open-spec = tie.close (tie.spec enum-told enum-told-2 enum-told-3 returns returns-2 returns-3)
+is-open-spec = tie.close (tie.spec (λ c. search needs) (λ c. search needs) (λ c. search needs) (λ c. search needs) returns-2 returns-3)

@@ -74,612 +74,121 @@ conjoin-at t = and 5 conjoin-kinds.ps (is 5 conjoin-kinds.ps μ-conjoin t) conjo
 abbrev conjoin-below : ℕ → In 5 conjoin-kinds.ps
 conjoin-below t = and 5 conjoin-kinds.ps (falls 5 conjoin-kinds.ps _<_ μ-conjoin t) conjoin.Pre
 
-apply-apply-ranges-requires : (t : ℕ) → apply-lts.Need-apply-ranges-requires (
-  apply-ranges-below t,
-  apply-ranges.Post,
-  edge-of-reads.Asked,
-  edge-of-reads.Learnt,
-  child-reads.Asked,
-  child-reads.Learnt,
-  conjoin-below t,
-  conjoin.Post,
-  first-unless-reads.Asked,
-  first-unless-reads.Learnt,
-  create-pair-reads.Asked,
-  create-pair-reads.Learnt,
-) (apply-at t) apply.Post
+abbrev apply-claims : ℕ → apply-lts.Claims
+apply-claims t = (apply-ranges-below t, apply-ranges.Post, edge-of-reads.Asked, edge-of-reads.Learnt, child-reads.Asked, child-reads.Learnt, conjoin-below t, conjoin.Post, first-unless-reads.Asked, first-unless-reads.Learnt, create-pair-reads.Asked, create-pair-reads.Learnt)
+
+abbrev apply-ranges-claims : ℕ → apply-ranges-lts.Claims
+apply-ranges-claims t = (new-reads.Asked, new-reads.Learnt, child-reads.Asked, child-reads.Learnt, cut-reads.Asked, cut-reads.Learnt, conjoin-below t, conjoin.Post, slot-for-reads.Asked, slot-for-reads.Learnt, advance-reads.Asked, advance-reads.Learnt, create-node-reads.Asked, create-node-reads.Learnt)
+
+abbrev conjoin-claims : ℕ → conjoin-lts.Claims
+conjoin-claims t = (opened-reads.Asked, opened-reads.Learnt, recall-reads.Asked, recall-reads.Learnt, first-variable-reads.Asked, first-variable-reads.Learnt, view-of-reads.Asked, view-of-reads.Learnt, apply-below t, apply.Post, remember-reads.Asked, remember-reads.Learnt)
+
+apply-apply-ranges-requires : (t : ℕ) → apply-lts.Need-apply-ranges-requires (apply-claims t) (apply-at t) apply.Post
 apply-apply-ranges-requires t c κs = (omega (arith, (c .before .before .before .before .before .before .before .before .before .before .pre .0)), ((c .before .before .before .before .before .before .before .before .before .before .pre .1 .0), (c .before .before .before .before .before .before .before .before .before .before .pre .1 .1), omega arith))
 
-apply-same-length : (t : ℕ) → apply-lts.Need-same-length (
-  apply-ranges-below t,
-  apply-ranges.Post,
-  edge-of-reads.Asked,
-  edge-of-reads.Learnt,
-  child-reads.Asked,
-  child-reads.Learnt,
-  conjoin-below t,
-  conjoin.Post,
-  first-unless-reads.Asked,
-  first-unless-reads.Learnt,
-  create-pair-reads.Asked,
-  create-pair-reads.Learnt,
-) (apply-at t) apply.Post
+apply-same-length : (t : ℕ) → apply-lts.Need-same-length (apply-claims t) (apply-at t) apply.Post
 apply-same-length t c = (c .before .before .before .before .before .before .before .before .before .apply-ranges .ensures .outcome .stays .long)
 
-apply-same-length-2 : (t : ℕ) → apply-lts.Need-same-length-2 (
-  apply-ranges-below t,
-  apply-ranges.Post,
-  edge-of-reads.Asked,
-  edge-of-reads.Learnt,
-  child-reads.Asked,
-  child-reads.Learnt,
-  conjoin-below t,
-  conjoin.Post,
-  first-unless-reads.Asked,
-  first-unless-reads.Learnt,
-  create-pair-reads.Asked,
-  create-pair-reads.Learnt,
-) (apply-at t) apply.Post
+apply-same-length-2 : (t : ℕ) → apply-lts.Need-same-length-2 (apply-claims t) (apply-at t) apply.Post
 apply-same-length-2 t c = (c .before .before .before .before .before .before .before .before .before .apply-ranges .ensures .outcome .stays .wide)
 
-apply-same-length-3 : (t : ℕ) → apply-lts.Need-same-length-3 (
-  apply-ranges-below t,
-  apply-ranges.Post,
-  edge-of-reads.Asked,
-  edge-of-reads.Learnt,
-  child-reads.Asked,
-  child-reads.Learnt,
-  conjoin-below t,
-  conjoin.Post,
-  first-unless-reads.Asked,
-  first-unless-reads.Learnt,
-  create-pair-reads.Asked,
-  create-pair-reads.Learnt,
-) (apply-at t) apply.Post
+apply-same-length-3 : (t : ℕ) → apply-lts.Need-same-length-3 (apply-claims t) (apply-at t) apply.Post
 apply-same-length-3 t c = cuts-long (c .before .before .before .before .before .before .before .before .before .before .before .before .before .before .before .before .before .before .before .before .pre .1 .0) (c .before .before .before .before .before .before .before .before .before .apply-ranges .ensures)
 
-apply-same-length-4 : (t : ℕ) → apply-lts.Need-same-length-4 (
-  apply-ranges-below t,
-  apply-ranges.Post,
-  edge-of-reads.Asked,
-  edge-of-reads.Learnt,
-  child-reads.Asked,
-  child-reads.Learnt,
-  conjoin-below t,
-  conjoin.Post,
-  first-unless-reads.Asked,
-  first-unless-reads.Learnt,
-  create-pair-reads.Asked,
-  create-pair-reads.Learnt,
-) (apply-at t) apply.Post
+apply-same-length-4 : (t : ℕ) → apply-lts.Need-same-length-4 (apply-claims t) (apply-at t) apply.Post
 apply-same-length-4 t c = index-long (c .before .before .before .before .before .before .before .before .before .before .before .before .before .before .before .before .before .before .before .before .pre .1 .0) (c .before .before .before .before .before .before .before .before .before .apply-ranges .ensures)
 
-apply-same-length-5 : (t : ℕ) → apply-lts.Need-same-length-5 (
-  apply-ranges-below t,
-  apply-ranges.Post,
-  edge-of-reads.Asked,
-  edge-of-reads.Learnt,
-  child-reads.Asked,
-  child-reads.Learnt,
-  conjoin-below t,
-  conjoin.Post,
-  first-unless-reads.Asked,
-  first-unless-reads.Learnt,
-  create-pair-reads.Asked,
-  create-pair-reads.Learnt,
-) (apply-at t) apply.Post
+apply-same-length-5 : (t : ℕ) → apply-lts.Need-same-length-5 (apply-claims t) (apply-at t) apply.Post
 apply-same-length-5 t c = (c .before .before .before .before .before .before .before .before .before .apply-ranges .ensures .long)
 
-apply-returns : (t : ℕ) → apply-lts.Need-returns (
-  apply-ranges-below t,
-  apply-ranges.Post,
-  edge-of-reads.Asked,
-  edge-of-reads.Learnt,
-  child-reads.Asked,
-  child-reads.Learnt,
-  conjoin-below t,
-  conjoin.Post,
-  first-unless-reads.Asked,
-  first-unless-reads.Learnt,
-  create-pair-reads.Asked,
-  create-pair-reads.Learnt,
-) (apply-at t) apply.Post
+apply-returns : (t : ℕ) → apply-lts.Need-returns (apply-claims t) (apply-at t) apply.Post
 apply-returns t c = left-to-right (c .before .before .before .before .before .before .before .before .before .before .before .before .before .before .before .before .before .before .before .before .args .head) (c .before .before .before .before .before .before .before .before .before .before .before .before .before .before .before .before .before .before .before .before .args .nodes .now) (c .before .before .before .before .before .before .before .before .before .before .before .before .before .before .before .before .before .before .before .before .args .children .now) (c .before .before .before .before .before .before .before .before .before .before .before .before .before .before .before .before .before .before .before .before .args .cuts .now) (c .before .before .before .before .before .before .before .before .before .before .before .before .before .before .before .before .before .before .before .before .args .memo .now) (c .before .before .before .before .before .before .before .before .before .before .before .before .before .before .before .before .before .before .before .before .args .a) (c .before .before .before .before .before .before .before .before .before .before .before .before .before .before .before .before .before .before .before .before .args .b) (c .before .before .before .before .before .before .before .before .before .before .before .before .before .before .before .before .before .before .before .before .args .v) (c .before .before .before .before .before .before .before .before .before .before .before .before .before .before .before .before .before .before .before .before .args .ahead) (omega arith) (c .before .before .before .before .before .before .before .before .before .apply-ranges .ensures)
 
-apply-edge-of-requires : (t : ℕ) → apply-lts.Need-edge-of-requires (
-  apply-ranges-below t,
-  apply-ranges.Post,
-  edge-of-reads.Asked,
-  edge-of-reads.Learnt,
-  child-reads.Asked,
-  child-reads.Learnt,
-  conjoin-below t,
-  conjoin.Post,
-  first-unless-reads.Asked,
-  first-unless-reads.Learnt,
-  create-pair-reads.Asked,
-  create-pair-reads.Learnt,
-) (apply-at t) apply.Post
+apply-edge-of-requires : (t : ℕ) → apply-lts.Need-edge-of-requires (apply-claims t) (apply-at t) apply.Post
 apply-edge-of-requires t c κs = (c .before .before .before .before .before .before .before .before .pre .1 .1 .left .some)
 
-apply-child-requires : (t : ℕ) → apply-lts.Need-child-requires (
-  apply-ranges-below t,
-  apply-ranges.Post,
-  edge-of-reads.Asked,
-  edge-of-reads.Learnt,
-  child-reads.Asked,
-  child-reads.Learnt,
-  conjoin-below t,
-  conjoin.Post,
-  first-unless-reads.Asked,
-  first-unless-reads.Learnt,
-  create-pair-reads.Asked,
-  create-pair-reads.Learnt,
-) (apply-at t) apply.Post
+apply-child-requires : (t : ℕ) → apply-lts.Need-child-requires (apply-claims t) (apply-at t) apply.Post
 apply-child-requires t c κs = let back = not (eqb (c .before .before .before .before .before .before .before .before .before .args .a .count) (c .before .before .before .before .before .before .before .before .before .args .b .count)) in (inside-still (c .before .before .before .before .before .before .before .before .before .pre .1 .0) (c .before .before .before .before .before .before .before .before .before .pre .1 .1 .left) refl, subst (λ (x : ℕ). x < (c .before .before .before .before .before .before .before .before .before .args .a .count)) (sym (c .edge-of .ensures)) (half-inside (c .before .before .before .before .before .before .before .before .before .args .a .count) (c .before .before .before .before .before .before .before .before .before .pre .1 .1 .left .some) back))
 
-apply-edge-of-requires-2 : (t : ℕ) → apply-lts.Need-edge-of-requires-2 (
-  apply-ranges-below t,
-  apply-ranges.Post,
-  edge-of-reads.Asked,
-  edge-of-reads.Learnt,
-  child-reads.Asked,
-  child-reads.Learnt,
-  conjoin-below t,
-  conjoin.Post,
-  first-unless-reads.Asked,
-  first-unless-reads.Learnt,
-  create-pair-reads.Asked,
-  create-pair-reads.Learnt,
-) (apply-at t) apply.Post
+apply-edge-of-requires-2 : (t : ℕ) → apply-lts.Need-edge-of-requires-2 (apply-claims t) (apply-at t) apply.Post
 apply-edge-of-requires-2 t c κs = (c .before .before .before .before .before .before .before .before .before .before .before .pre .1 .1 .right .some)
 
-apply-child-requires-2 : (t : ℕ) → apply-lts.Need-child-requires-2 (
-  apply-ranges-below t,
-  apply-ranges.Post,
-  edge-of-reads.Asked,
-  edge-of-reads.Learnt,
-  child-reads.Asked,
-  child-reads.Learnt,
-  conjoin-below t,
-  conjoin.Post,
-  first-unless-reads.Asked,
-  first-unless-reads.Learnt,
-  create-pair-reads.Asked,
-  create-pair-reads.Learnt,
-) (apply-at t) apply.Post
+apply-child-requires-2 : (t : ℕ) → apply-lts.Need-child-requires-2 (apply-claims t) (apply-at t) apply.Post
 apply-child-requires-2 t c κs = let back = not (eqb (c .before .before .before .before .before .before .before .before .before .before .before .before .args .a .count) (c .before .before .before .before .before .before .before .before .before .before .before .before .args .b .count)) in (inside-still (c .before .before .before .before .before .before .before .before .before .before .before .before .pre .1 .0) (c .before .before .before .before .before .before .before .before .before .before .before .before .pre .1 .1 .right) refl, subst (λ (x : ℕ). x < (c .before .before .before .before .before .before .before .before .before .before .before .before .args .b .count)) (sym (c .edge-of2 .ensures)) (half-inside (c .before .before .before .before .before .before .before .before .before .before .before .before .args .b .count) (c .before .before .before .before .before .before .before .before .before .before .before .before .pre .1 .1 .right .some) back))
 
-apply-conjoin-requires : (t : ℕ) → apply-lts.Need-conjoin-requires (
-  apply-ranges-below t,
-  apply-ranges.Post,
-  edge-of-reads.Asked,
-  edge-of-reads.Learnt,
-  child-reads.Asked,
-  child-reads.Learnt,
-  conjoin-below t,
-  conjoin.Post,
-  first-unless-reads.Asked,
-  first-unless-reads.Learnt,
-  create-pair-reads.Asked,
-  create-pair-reads.Learnt,
-) (apply-at t) apply.Post
+apply-conjoin-requires : (t : ℕ) → apply-lts.Need-conjoin-requires (apply-claims t) (apply-at t) apply.Post
 apply-conjoin-requires t c κs = let back = not (eqb (c .before .before .before .before .before .before .before .before .before .before .before .before .before .before .before .before .before .before .args .a .count) (c .before .before .before .before .before .before .before .before .before .before .before .before .before .before .before .before .before .before .args .b .count)) in let asked = first-asked (conj-walk _ _) (c .before .before .before .before .before .before .before .before .before .before .before .before .before .before .before .before .before .before .pre .1 .0) (c .before .before .before .before .before .before .before .before .before .before .before .before .before .if1 .left) (c .before .before .before .before .before .before .before .before .before .before .before .before .before .before .before .before .before .before .pre .1 .1) back (half-of _ (c .before .before .before .before .before .before .before .before .before .before .before .before .before .before .before .before .before .before .args .a) back (c .before .before .before .before .before .before .before .before .child .ensures) (c .before .before .before .before .before .before .before .before .before .edge-of .ensures)) (half-of _ (c .before .before .before .before .before .before .before .before .before .before .before .before .before .before .before .before .before .before .args .b) back (c .before .before .before .before .before .child2 .ensures) (c .before .before .before .before .before .before .edge-of2 .ensures)) in (omega (arith, (c .before .before .before .before .before .before .before .before .before .before .before .before .before .before .before .before .before .before .pre .0)), ((c .before .before .before .before .before .before .before .before .before .before .before .before .before .before .before .before .before .before .pre .1 .0), asked .0, asked .1))
 
-apply-same-length-6 : (t : ℕ) → apply-lts.Need-same-length-6 (
-  apply-ranges-below t,
-  apply-ranges.Post,
-  edge-of-reads.Asked,
-  edge-of-reads.Learnt,
-  child-reads.Asked,
-  child-reads.Learnt,
-  conjoin-below t,
-  conjoin.Post,
-  first-unless-reads.Asked,
-  first-unless-reads.Learnt,
-  create-pair-reads.Asked,
-  create-pair-reads.Learnt,
-) (apply-at t) apply.Post
+apply-same-length-6 : (t : ℕ) → apply-lts.Need-same-length-6 (apply-claims t) (apply-at t) apply.Post
 apply-same-length-6 t c = (c .before .before .before .before .before .before .before .before .before .before .before .conjoin .ensures .outcome .stays .long)
 
-apply-same-length-7 : (t : ℕ) → apply-lts.Need-same-length-7 (
-  apply-ranges-below t,
-  apply-ranges.Post,
-  edge-of-reads.Asked,
-  edge-of-reads.Learnt,
-  child-reads.Asked,
-  child-reads.Learnt,
-  conjoin-below t,
-  conjoin.Post,
-  first-unless-reads.Asked,
-  first-unless-reads.Learnt,
-  create-pair-reads.Asked,
-  create-pair-reads.Learnt,
-) (apply-at t) apply.Post
+apply-same-length-7 : (t : ℕ) → apply-lts.Need-same-length-7 (apply-claims t) (apply-at t) apply.Post
 apply-same-length-7 t c = (c .before .before .before .before .before .before .before .before .before .before .before .conjoin .ensures .outcome .stays .wide)
 
-apply-same-length-8 : (t : ℕ) → apply-lts.Need-same-length-8 (
-  apply-ranges-below t,
-  apply-ranges.Post,
-  edge-of-reads.Asked,
-  edge-of-reads.Learnt,
-  child-reads.Asked,
-  child-reads.Learnt,
-  conjoin-below t,
-  conjoin.Post,
-  first-unless-reads.Asked,
-  first-unless-reads.Learnt,
-  create-pair-reads.Asked,
-  create-pair-reads.Learnt,
-) (apply-at t) apply.Post
+apply-same-length-8 : (t : ℕ) → apply-lts.Need-same-length-8 (apply-claims t) (apply-at t) apply.Post
 apply-same-length-8 t c = cuts-long (c .before .before .before .before .before .before .before .before .before .before .before .before .before .before .before .before .before .before .before .before .before .before .before .before .before .before .before .before .before .before .pre .1 .0) (c .before .before .before .before .before .before .before .before .before .before .before .conjoin .ensures)
 
-apply-same-length-9 : (t : ℕ) → apply-lts.Need-same-length-9 (
-  apply-ranges-below t,
-  apply-ranges.Post,
-  edge-of-reads.Asked,
-  edge-of-reads.Learnt,
-  child-reads.Asked,
-  child-reads.Learnt,
-  conjoin-below t,
-  conjoin.Post,
-  first-unless-reads.Asked,
-  first-unless-reads.Learnt,
-  create-pair-reads.Asked,
-  create-pair-reads.Learnt,
-) (apply-at t) apply.Post
+apply-same-length-9 : (t : ℕ) → apply-lts.Need-same-length-9 (apply-claims t) (apply-at t) apply.Post
 apply-same-length-9 t c = index-long (c .before .before .before .before .before .before .before .before .before .before .before .before .before .before .before .before .before .before .before .before .before .before .before .before .before .before .before .before .before .before .pre .1 .0) (c .before .before .before .before .before .before .before .before .before .before .before .conjoin .ensures)
 
-apply-same-length-10 : (t : ℕ) → apply-lts.Need-same-length-10 (
-  apply-ranges-below t,
-  apply-ranges.Post,
-  edge-of-reads.Asked,
-  edge-of-reads.Learnt,
-  child-reads.Asked,
-  child-reads.Learnt,
-  conjoin-below t,
-  conjoin.Post,
-  first-unless-reads.Asked,
-  first-unless-reads.Learnt,
-  create-pair-reads.Asked,
-  create-pair-reads.Learnt,
-) (apply-at t) apply.Post
+apply-same-length-10 : (t : ℕ) → apply-lts.Need-same-length-10 (apply-claims t) (apply-at t) apply.Post
 apply-same-length-10 t c = (c .before .before .before .before .before .before .before .before .before .before .before .conjoin .ensures .long)
 
-apply-returns-2 : (t : ℕ) → apply-lts.Need-returns-2 (
-  apply-ranges-below t,
-  apply-ranges.Post,
-  edge-of-reads.Asked,
-  edge-of-reads.Learnt,
-  child-reads.Asked,
-  child-reads.Learnt,
-  conjoin-below t,
-  conjoin.Post,
-  first-unless-reads.Asked,
-  first-unless-reads.Learnt,
-  create-pair-reads.Asked,
-  create-pair-reads.Learnt,
-) (apply-at t) apply.Post
+apply-returns-2 : (t : ℕ) → apply-lts.Need-returns-2 (apply-claims t) (apply-at t) apply.Post
 apply-returns-2 t c = let back = not (eqb (c .before .before .before .before .before .before .before .before .before .before .before .before .before .before .before .before .before .before .before .before .before .before .before .before .before .before .before .before .before .before .args .a .count) (c .before .before .before .before .before .before .before .before .before .before .before .before .before .before .before .before .before .before .before .before .before .before .before .before .before .before .before .before .before .before .args .b .count)) in by-tests (c .before .before .before .before .before .before .before .before .before .before .before .before .before .before .before .before .before .before .before .before .before .before .before .before .before .before .before .before .before .before .args .head) (c .before .before .before .before .before .before .before .before .before .before .before .before .before .before .before .before .before .before .before .before .before .before .before .before .before .before .before .before .before .before .args .nodes .now) (c .before .before .before .before .before .before .before .before .before .before .before .before .before .before .before .before .before .before .before .before .before .before .before .before .before .before .before .before .before .before .args .children .now) (c .before .before .before .before .before .before .before .before .before .before .before .before .before .before .before .before .before .before .before .before .before .before .before .before .before .before .before .before .before .before .args .cuts .now) (c .before .before .before .before .before .before .before .before .before .before .before .before .before .before .before .before .before .before .before .before .before .before .before .before .before .before .before .before .before .before .args .memo .now) (c .before .before .before .before .before .before .before .before .before .before .before .before .before .before .before .before .before .before .before .before .before .before .before .before .before .before .before .before .before .before .args .a) (c .before .before .before .before .before .before .before .before .before .before .before .before .before .before .before .before .before .before .before .before .before .before .before .before .before .before .before .before .before .before .args .b) (c .before .before .before .before .before .before .before .before .before .before .before .before .before .before .before .before .before .before .before .before .before .before .before .before .before .before .before .before .before .before .args .v) (c .before .before .before .before .before .before .before .before .before .before .before .before .before .before .before .before .before .before .before .before .before .before .before .before .before .before .before .before .before .before .args .ahead) (c .before .before .before .before .before .before .before .before .before .before .before .before .before .before .before .before .before .before .before .before .before .before .before .before .before .if1 .left) (first-fails (conj-walk _ _) (c .before .before .before .before .before .before .before .before .before .before .before .before .before .before .before .before .before .before .before .before .before .before .before .before .before .before .before .before .before .before .pre .1 .0) (c .before .before .before .before .before .before .before .before .before .before .before .before .before .before .before .before .before .before .before .before .before .before .before .before .before .if1 .left) (c .before .before .before .before .before .before .before .before .before .before .before .before .before .before .before .before .before .before .before .before .before .before .before .before .before .before .before .before .before .before .pre .1 .1) back (half-of _ (c .before .before .before .before .before .before .before .before .before .before .before .before .before .before .before .before .before .before .before .before .before .before .before .before .before .before .before .before .before .before .args .a) back (c .before .before .before .before .before .before .before .before .before .before .before .before .before .before .before .before .before .before .before .before .child .ensures) (c .before .before .before .before .before .before .before .before .before .before .before .before .before .before .before .before .before .before .before .before .before .edge-of .ensures)) (half-of _ (c .before .before .before .before .before .before .before .before .before .before .before .before .before .before .before .before .before .before .before .before .before .before .before .before .before .before .before .before .before .before .args .b) back (c .before .before .before .before .before .before .before .before .before .before .before .before .before .before .before .before .before .child2 .ensures) (c .before .before .before .before .before .before .before .before .before .before .before .before .before .before .before .before .before .before .edge-of2 .ensures)) (c .before .before .before .before .before .before .before .before .before .before .before .conjoin .ensures) (not-true _ (c .if2 .taken)))
 
-apply-edge-of-requires-3 : (t : ℕ) → apply-lts.Need-edge-of-requires-3 (
-  apply-ranges-below t,
-  apply-ranges.Post,
-  edge-of-reads.Asked,
-  edge-of-reads.Learnt,
-  child-reads.Asked,
-  child-reads.Learnt,
-  conjoin-below t,
-  conjoin.Post,
-  first-unless-reads.Asked,
-  first-unless-reads.Learnt,
-  create-pair-reads.Asked,
-  create-pair-reads.Learnt,
-) (apply-at t) apply.Post
+apply-edge-of-requires-3 : (t : ℕ) → apply-lts.Need-edge-of-requires-3 (apply-claims t) (apply-at t) apply.Post
 apply-edge-of-requires-3 t c κs = (c .before .before .before .before .before .before .before .before .before .before .before .before .before .before .before .before .before .before .before .before .before .before .before .before .before .before .before .before .before .before .before .before .before .pre .1 .1 .left .some)
 
-apply-child-requires-3 : (t : ℕ) → apply-lts.Need-child-requires-3 (
-  apply-ranges-below t,
-  apply-ranges.Post,
-  edge-of-reads.Asked,
-  edge-of-reads.Learnt,
-  child-reads.Asked,
-  child-reads.Learnt,
-  conjoin-below t,
-  conjoin.Post,
-  first-unless-reads.Asked,
-  first-unless-reads.Learnt,
-  create-pair-reads.Asked,
-  create-pair-reads.Learnt,
-) (apply-at t) apply.Post
+apply-child-requires-3 : (t : ℕ) → apply-lts.Need-child-requires-3 (apply-claims t) (apply-at t) apply.Post
 apply-child-requires-3 t c κs = let back = not (eqb (c .before .before .before .before .before .before .before .before .before .before .before .before .before .before .before .before .before .before .before .before .before .before .before .before .before .before .before .before .before .before .before .before .before .before .args .a .count) (c .before .before .before .before .before .before .before .before .before .before .before .before .before .before .before .before .before .before .before .before .before .before .before .before .before .before .before .before .before .before .before .before .before .before .args .b .count)) in (inside-still (c .before .before .before .before .before .before .before .before .before .before .before .before .before .before .before .before .before .before .before .before .before .before .before .before .before .before .before .before .before .before .before .before .before .before .pre .1 .0) (c .before .before .before .before .before .before .before .before .before .before .before .before .before .before .before .before .before .before .before .before .before .before .before .before .before .before .before .before .before .before .before .before .before .before .pre .1 .1 .left) (c .before .before .before .before .before .before .before .before .before .before .before .before .before .before .before .conjoin .ensures .outcome .stays .wide), subst (λ (x : ℕ). x < (c .before .before .before .before .before .before .before .before .before .before .before .before .before .before .before .before .before .before .before .before .before .before .before .before .before .before .before .before .before .before .before .before .before .before .args .a .count)) (sym (c .edge-of3 .ensures)) (half-inside (c .before .before .before .before .before .before .before .before .before .before .before .before .before .before .before .before .before .before .before .before .before .before .before .before .before .before .before .before .before .before .before .before .before .before .args .a .count) (c .before .before .before .before .before .before .before .before .before .before .before .before .before .before .before .before .before .before .before .before .before .before .before .before .before .before .before .before .before .before .before .before .before .before .pre .1 .1 .left .some) (not back)))
 
-apply-edge-of-requires-4 : (t : ℕ) → apply-lts.Need-edge-of-requires-4 (
-  apply-ranges-below t,
-  apply-ranges.Post,
-  edge-of-reads.Asked,
-  edge-of-reads.Learnt,
-  child-reads.Asked,
-  child-reads.Learnt,
-  conjoin-below t,
-  conjoin.Post,
-  first-unless-reads.Asked,
-  first-unless-reads.Learnt,
-  create-pair-reads.Asked,
-  create-pair-reads.Learnt,
-) (apply-at t) apply.Post
+apply-edge-of-requires-4 : (t : ℕ) → apply-lts.Need-edge-of-requires-4 (apply-claims t) (apply-at t) apply.Post
 apply-edge-of-requires-4 t c κs = (c .before .before .before .before .before .before .before .before .before .before .before .before .before .before .before .before .before .before .before .before .before .before .before .before .before .before .before .before .before .before .before .before .before .before .before .before .pre .1 .1 .right .some)
 
-apply-child-requires-4 : (t : ℕ) → apply-lts.Need-child-requires-4 (
-  apply-ranges-below t,
-  apply-ranges.Post,
-  edge-of-reads.Asked,
-  edge-of-reads.Learnt,
-  child-reads.Asked,
-  child-reads.Learnt,
-  conjoin-below t,
-  conjoin.Post,
-  first-unless-reads.Asked,
-  first-unless-reads.Learnt,
-  create-pair-reads.Asked,
-  create-pair-reads.Learnt,
-) (apply-at t) apply.Post
+apply-child-requires-4 : (t : ℕ) → apply-lts.Need-child-requires-4 (apply-claims t) (apply-at t) apply.Post
 apply-child-requires-4 t c κs = let back = not (eqb (c .before .before .before .before .before .before .before .before .before .before .before .before .before .before .before .before .before .before .before .before .before .before .before .before .before .before .before .before .before .before .before .before .before .before .before .before .before .args .a .count) (c .before .before .before .before .before .before .before .before .before .before .before .before .before .before .before .before .before .before .before .before .before .before .before .before .before .before .before .before .before .before .before .before .before .before .before .before .before .args .b .count)) in (inside-still (c .before .before .before .before .before .before .before .before .before .before .before .before .before .before .before .before .before .before .before .before .before .before .before .before .before .before .before .before .before .before .before .before .before .before .before .before .before .pre .1 .0) (c .before .before .before .before .before .before .before .before .before .before .before .before .before .before .before .before .before .before .before .before .before .before .before .before .before .before .before .before .before .before .before .before .before .before .before .before .before .pre .1 .1 .right) (c .before .before .before .before .before .before .before .before .before .before .before .before .before .before .before .before .before .before .conjoin .ensures .outcome .stays .wide), subst (λ (x : ℕ). x < (c .before .before .before .before .before .before .before .before .before .before .before .before .before .before .before .before .before .before .before .before .before .before .before .before .before .before .before .before .before .before .before .before .before .before .before .before .before .args .b .count)) (sym (c .edge-of4 .ensures)) (half-inside (c .before .before .before .before .before .before .before .before .before .before .before .before .before .before .before .before .before .before .before .before .before .before .before .before .before .before .before .before .before .before .before .before .before .before .before .before .before .args .b .count) (c .before .before .before .before .before .before .before .before .before .before .before .before .before .before .before .before .before .before .before .before .before .before .before .before .before .before .before .before .before .before .before .before .before .before .before .before .before .pre .1 .1 .right .some) (not back)))
 
-apply-conjoin-requires-2 : (t : ℕ) → apply-lts.Need-conjoin-requires-2 (
-  apply-ranges-below t,
-  apply-ranges.Post,
-  edge-of-reads.Asked,
-  edge-of-reads.Learnt,
-  child-reads.Asked,
-  child-reads.Learnt,
-  conjoin-below t,
-  conjoin.Post,
-  first-unless-reads.Asked,
-  first-unless-reads.Learnt,
-  create-pair-reads.Asked,
-  create-pair-reads.Learnt,
-) (apply-at t) apply.Post
+apply-conjoin-requires-2 : (t : ℕ) → apply-lts.Need-conjoin-requires-2 (apply-claims t) (apply-at t) apply.Post
 apply-conjoin-requires-2 t c κs = let back = not (eqb (c .before .before .before .before .before .before .before .before .before .before .before .before .before .before .before .before .before .before .before .before .before .before .before .before .before .before .before .before .before .before .before .before .before .before .before .before .before .before .before .before .before .before .before .args .a .count) (c .before .before .before .before .before .before .before .before .before .before .before .before .before .before .before .before .before .before .before .before .before .before .before .before .before .before .before .before .before .before .before .before .before .before .before .before .before .before .before .before .before .before .before .args .b .count)) in let asked = second-asked (conj-walk _ _) (c .before .before .before .before .before .before .before .before .before .before .before .before .before .before .before .before .before .before .before .before .before .before .before .before .before .before .before .before .before .before .before .before .before .before .before .before .before .before .before .before .before .before .before .pre .1 .0) (c .before .before .before .before .before .before .before .before .before .before .before .before .before .before .before .before .before .before .before .before .before .before .before .before .before .before .before .before .before .before .before .before .before .before .before .before .before .before .if1 .left) (c .before .before .before .before .before .before .before .before .before .before .before .before .before .before .before .before .before .before .before .before .before .before .before .before .before .before .before .before .before .before .before .before .before .before .before .before .before .before .before .before .before .before .before .pre .1 .1) back (half-of _ (c .before .before .before .before .before .before .before .before .before .before .before .before .before .before .before .before .before .before .before .before .before .before .before .before .before .before .before .before .before .before .before .before .before .before .before .before .before .before .before .before .before .before .before .args .a) back (c .before .before .before .before .before .before .before .before .before .before .before .before .before .before .before .before .before .before .before .before .before .before .before .before .before .before .before .before .before .before .before .before .before .child .ensures) (c .before .before .before .before .before .before .before .before .before .before .before .before .before .before .before .before .before .before .before .before .before .before .before .before .before .before .before .before .before .before .before .before .before .before .edge-of .ensures)) (half-of _ (c .before .before .before .before .before .before .before .before .before .before .before .before .before .before .before .before .before .before .before .before .before .before .before .before .before .before .before .before .before .before .before .before .before .before .before .before .before .before .before .before .before .before .before .args .b) back (c .before .before .before .before .before .before .before .before .before .before .before .before .before .before .before .before .before .before .before .before .before .before .before .before .before .before .before .before .before .before .child2 .ensures) (c .before .before .before .before .before .before .before .before .before .before .before .before .before .before .before .before .before .before .before .before .before .before .before .before .before .before .before .before .before .before .before .edge-of2 .ensures)) (c .before .before .before .before .before .before .before .before .before .before .before .before .before .before .before .before .before .before .before .before .before .before .before .before .conjoin .ensures) (half-still (c .before .before .before .before .before .before .before .before .before .before .before .before .before .before .before .before .before .before .before .before .before .before .before .before .conjoin .ensures) (c .before .before .before .before .before .before .before .before .before .before .before .before .before .before .before .before .before .before .before .before .before .before .before .before .before .before .before .before .before .before .before .before .before .before .before .before .before .before .before .before .before .before .before .args .a) (not back) (c .before .before .before .before .before .before .before .before .before .before .before .before .before .before .before .before .before .before .before .before .before .before .before .before .before .before .before .before .before .before .before .before .before .before .before .before .before .before .before .before .before .before .before .pre .1 .1 .left) (c .before .before .before .before .before .before .before .before .child3 .ensures) (c .before .before .before .before .before .before .before .before .before .edge-of3 .ensures)) (half-still (c .before .before .before .before .before .before .before .before .before .before .before .before .before .before .before .before .before .before .before .before .before .before .before .before .conjoin .ensures) (c .before .before .before .before .before .before .before .before .before .before .before .before .before .before .before .before .before .before .before .before .before .before .before .before .before .before .before .before .before .before .before .before .before .before .before .before .before .before .before .before .before .before .before .args .b) (not back) (c .before .before .before .before .before .before .before .before .before .before .before .before .before .before .before .before .before .before .before .before .before .before .before .before .before .before .before .before .before .before .before .before .before .before .before .before .before .before .before .before .before .before .before .pre .1 .1 .right) (c .before .before .before .before .before .child4 .ensures) (c .before .before .before .before .before .before .edge-of4 .ensures)) in (omega (arith, (c .before .before .before .before .before .before .before .before .before .before .before .before .before .before .before .before .before .before .before .before .before .before .before .before .before .before .before .before .before .before .before .before .before .before .before .before .before .before .before .before .before .before .before .pre .0)), (ready-after (c .before .before .before .before .before .before .before .before .before .before .before .before .before .before .before .before .before .before .before .before .before .before .before .before .before .before .before .before .before .before .before .before .before .before .before .before .before .before .before .before .before .before .before .pre .1 .0) (c .before .before .before .before .before .before .before .before .before .before .before .before .before .before .before .before .before .before .before .before .before .before .before .before .conjoin .ensures), asked .0, asked .1))
 
-apply-same-length-11 : (t : ℕ) → apply-lts.Need-same-length-11 (
-  apply-ranges-below t,
-  apply-ranges.Post,
-  edge-of-reads.Asked,
-  edge-of-reads.Learnt,
-  child-reads.Asked,
-  child-reads.Learnt,
-  conjoin-below t,
-  conjoin.Post,
-  first-unless-reads.Asked,
-  first-unless-reads.Learnt,
-  create-pair-reads.Asked,
-  create-pair-reads.Learnt,
-) (apply-at t) apply.Post
+apply-same-length-11 : (t : ℕ) → apply-lts.Need-same-length-11 (apply-claims t) (apply-at t) apply.Post
 apply-same-length-11 t c = (then (c .before .before .before .before .before .before .before .before .before .before .before .before .before .before .before .before .before .before .before .before .before .before .before .before .before .before .before .before .before .before .before .before .before .before .before .before .before .before .before .before .before .before .before .before .before .before .before .before .before .before .before .before .before .before .before .pre .1 .0) (c .before .before .before .before .before .before .before .before .before .before .before .before .before .before .before .before .before .before .before .before .before .before .before .before .before .before .before .before .before .before .before .before .before .before .before .before .conjoin .ensures) (c .before .before .before .before .before .before .before .before .before .before .before .conjoin2 .ensures)) .outcome .stays .long
 
-apply-same-length-12 : (t : ℕ) → apply-lts.Need-same-length-12 (
-  apply-ranges-below t,
-  apply-ranges.Post,
-  edge-of-reads.Asked,
-  edge-of-reads.Learnt,
-  child-reads.Asked,
-  child-reads.Learnt,
-  conjoin-below t,
-  conjoin.Post,
-  first-unless-reads.Asked,
-  first-unless-reads.Learnt,
-  create-pair-reads.Asked,
-  create-pair-reads.Learnt,
-) (apply-at t) apply.Post
+apply-same-length-12 : (t : ℕ) → apply-lts.Need-same-length-12 (apply-claims t) (apply-at t) apply.Post
 apply-same-length-12 t c = (then (c .before .before .before .before .before .before .before .before .before .before .before .before .before .before .before .before .before .before .before .before .before .before .before .before .before .before .before .before .before .before .before .before .before .before .before .before .before .before .before .before .before .before .before .before .before .before .before .before .before .before .before .before .before .before .before .pre .1 .0) (c .before .before .before .before .before .before .before .before .before .before .before .before .before .before .before .before .before .before .before .before .before .before .before .before .before .before .before .before .before .before .before .before .before .before .before .before .conjoin .ensures) (c .before .before .before .before .before .before .before .before .before .before .before .conjoin2 .ensures)) .outcome .stays .wide
 
-apply-same-length-13 : (t : ℕ) → apply-lts.Need-same-length-13 (
-  apply-ranges-below t,
-  apply-ranges.Post,
-  edge-of-reads.Asked,
-  edge-of-reads.Learnt,
-  child-reads.Asked,
-  child-reads.Learnt,
-  conjoin-below t,
-  conjoin.Post,
-  first-unless-reads.Asked,
-  first-unless-reads.Learnt,
-  create-pair-reads.Asked,
-  create-pair-reads.Learnt,
-) (apply-at t) apply.Post
+apply-same-length-13 : (t : ℕ) → apply-lts.Need-same-length-13 (apply-claims t) (apply-at t) apply.Post
 apply-same-length-13 t c = cuts-long (c .before .before .before .before .before .before .before .before .before .before .before .before .before .before .before .before .before .before .before .before .before .before .before .before .before .before .before .before .before .before .before .before .before .before .before .before .before .before .before .before .before .before .before .before .before .before .before .before .before .before .before .before .before .before .before .pre .1 .0) ((then (c .before .before .before .before .before .before .before .before .before .before .before .before .before .before .before .before .before .before .before .before .before .before .before .before .before .before .before .before .before .before .before .before .before .before .before .before .before .before .before .before .before .before .before .before .before .before .before .before .before .before .before .before .before .before .before .pre .1 .0) (c .before .before .before .before .before .before .before .before .before .before .before .before .before .before .before .before .before .before .before .before .before .before .before .before .before .before .before .before .before .before .before .before .before .before .before .before .conjoin .ensures) (c .before .before .before .before .before .before .before .before .before .before .before .conjoin2 .ensures)))
 
-apply-same-length-14 : (t : ℕ) → apply-lts.Need-same-length-14 (
-  apply-ranges-below t,
-  apply-ranges.Post,
-  edge-of-reads.Asked,
-  edge-of-reads.Learnt,
-  child-reads.Asked,
-  child-reads.Learnt,
-  conjoin-below t,
-  conjoin.Post,
-  first-unless-reads.Asked,
-  first-unless-reads.Learnt,
-  create-pair-reads.Asked,
-  create-pair-reads.Learnt,
-) (apply-at t) apply.Post
+apply-same-length-14 : (t : ℕ) → apply-lts.Need-same-length-14 (apply-claims t) (apply-at t) apply.Post
 apply-same-length-14 t c = index-long (c .before .before .before .before .before .before .before .before .before .before .before .before .before .before .before .before .before .before .before .before .before .before .before .before .before .before .before .before .before .before .before .before .before .before .before .before .before .before .before .before .before .before .before .before .before .before .before .before .before .before .before .before .before .before .before .pre .1 .0) ((then (c .before .before .before .before .before .before .before .before .before .before .before .before .before .before .before .before .before .before .before .before .before .before .before .before .before .before .before .before .before .before .before .before .before .before .before .before .before .before .before .before .before .before .before .before .before .before .before .before .before .before .before .before .before .before .before .pre .1 .0) (c .before .before .before .before .before .before .before .before .before .before .before .before .before .before .before .before .before .before .before .before .before .before .before .before .before .before .before .before .before .before .before .before .before .before .before .before .conjoin .ensures) (c .before .before .before .before .before .before .before .before .before .before .before .conjoin2 .ensures)))
 
-apply-same-length-15 : (t : ℕ) → apply-lts.Need-same-length-15 (
-  apply-ranges-below t,
-  apply-ranges.Post,
-  edge-of-reads.Asked,
-  edge-of-reads.Learnt,
-  child-reads.Asked,
-  child-reads.Learnt,
-  conjoin-below t,
-  conjoin.Post,
-  first-unless-reads.Asked,
-  first-unless-reads.Learnt,
-  create-pair-reads.Asked,
-  create-pair-reads.Learnt,
-) (apply-at t) apply.Post
+apply-same-length-15 : (t : ℕ) → apply-lts.Need-same-length-15 (apply-claims t) (apply-at t) apply.Post
 apply-same-length-15 t c = (then (c .before .before .before .before .before .before .before .before .before .before .before .before .before .before .before .before .before .before .before .before .before .before .before .before .before .before .before .before .before .before .before .before .before .before .before .before .before .before .before .before .before .before .before .before .before .before .before .before .before .before .before .before .before .before .before .pre .1 .0) (c .before .before .before .before .before .before .before .before .before .before .before .before .before .before .before .before .before .before .before .before .before .before .before .before .before .before .before .before .before .before .before .before .before .before .before .before .conjoin .ensures) (c .before .before .before .before .before .before .before .before .before .before .before .conjoin2 .ensures)) .long
 
-apply-returns-3 : (t : ℕ) → apply-lts.Need-returns-3 (
-  apply-ranges-below t,
-  apply-ranges.Post,
-  edge-of-reads.Asked,
-  edge-of-reads.Learnt,
-  child-reads.Asked,
-  child-reads.Learnt,
-  conjoin-below t,
-  conjoin.Post,
-  first-unless-reads.Asked,
-  first-unless-reads.Learnt,
-  create-pair-reads.Asked,
-  create-pair-reads.Learnt,
-) (apply-at t) apply.Post
+apply-returns-3 : (t : ℕ) → apply-lts.Need-returns-3 (apply-claims t) (apply-at t) apply.Post
 apply-returns-3 t c = let back = not (eqb (c .before .before .before .before .before .before .before .before .before .before .before .before .before .before .before .before .before .before .before .before .before .before .before .before .before .before .before .before .before .before .before .before .before .before .before .before .before .before .before .before .before .before .before .before .before .before .before .before .before .before .before .before .before .before .before .args .a .count) (c .before .before .before .before .before .before .before .before .before .before .before .before .before .before .before .before .before .before .before .before .before .before .before .before .before .before .before .before .before .before .before .before .before .before .before .before .before .before .before .before .before .before .before .before .before .before .before .before .before .before .before .before .before .before .before .args .b .count)) in by-tests (c .before .before .before .before .before .before .before .before .before .before .before .before .before .before .before .before .before .before .before .before .before .before .before .before .before .before .before .before .before .before .before .before .before .before .before .before .before .before .before .before .before .before .before .before .before .before .before .before .before .before .before .before .before .before .before .args .head) (c .before .before .before .before .before .before .before .before .before .before .before .before .before .before .before .before .before .before .before .before .before .before .before .before .before .before .before .before .before .before .before .before .before .before .before .before .before .before .before .before .before .before .before .before .before .before .before .before .before .before .before .before .before .before .before .args .nodes .now) (c .before .before .before .before .before .before .before .before .before .before .before .before .before .before .before .before .before .before .before .before .before .before .before .before .before .before .before .before .before .before .before .before .before .before .before .before .before .before .before .before .before .before .before .before .before .before .before .before .before .before .before .before .before .before .before .args .children .now) (c .before .before .before .before .before .before .before .before .before .before .before .before .before .before .before .before .before .before .before .before .before .before .before .before .before .before .before .before .before .before .before .before .before .before .before .before .before .before .before .before .before .before .before .before .before .before .before .before .before .before .before .before .before .before .before .args .cuts .now) (c .before .before .before .before .before .before .before .before .before .before .before .before .before .before .before .before .before .before .before .before .before .before .before .before .before .before .before .before .before .before .before .before .before .before .before .before .before .before .before .before .before .before .before .before .before .before .before .before .before .before .before .before .before .before .before .args .memo .now) (c .before .before .before .before .before .before .before .before .before .before .before .before .before .before .before .before .before .before .before .before .before .before .before .before .before .before .before .before .before .before .before .before .before .before .before .before .before .before .before .before .before .before .before .before .before .before .before .before .before .before .before .before .before .before .before .args .a) (c .before .before .before .before .before .before .before .before .before .before .before .before .before .before .before .before .before .before .before .before .before .before .before .before .before .before .before .before .before .before .before .before .before .before .before .before .before .before .before .before .before .before .before .before .before .before .before .before .before .before .before .before .before .before .before .args .b) (c .before .before .before .before .before .before .before .before .before .before .before .before .before .before .before .before .before .before .before .before .before .before .before .before .before .before .before .before .before .before .before .before .before .before .before .before .before .before .before .before .before .before .before .before .before .before .before .before .before .before .before .before .before .before .before .args .v) (c .before .before .before .before .before .before .before .before .before .before .before .before .before .before .before .before .before .before .before .before .before .before .before .before .before .before .before .before .before .before .before .before .before .before .before .before .before .before .before .before .before .before .before .before .before .before .before .before .before .before .before .before .before .before .before .args .ahead) (c .before .before .before .before .before .before .before .before .before .before .before .before .before .before .before .before .before .before .before .before .before .before .before .before .before .before .before .before .before .before .before .before .before .before .before .before .before .before .before .before .before .before .before .before .before .before .before .before .before .before .if1 .left) (second-fails (conj-walk _ _) (c .before .before .before .before .before .before .before .before .before .before .before .before .before .before .before .before .before .before .before .before .before .before .before .before .before .before .before .before .before .before .before .before .before .before .before .before .before .before .before .before .before .before .before .before .before .before .before .before .before .before .before .before .before .before .before .pre .1 .0) (c .before .before .before .before .before .before .before .before .before .before .before .before .before .before .before .before .before .before .before .before .before .before .before .before .before .before .before .before .before .before .before .before .before .before .before .before .before .before .before .before .before .before .before .before .before .before .before .before .before .before .if1 .left) (c .before .before .before .before .before .before .before .before .before .before .before .before .before .before .before .before .before .before .before .before .before .before .before .before .before .before .before .before .before .before .before .before .before .before .before .before .before .before .before .before .before .before .before .before .before .before .before .before .before .before .before .before .before .before .before .pre .1 .1) back (half-of _ (c .before .before .before .before .before .before .before .before .before .before .before .before .before .before .before .before .before .before .before .before .before .before .before .before .before .before .before .before .before .before .before .before .before .before .before .before .before .before .before .before .before .before .before .before .before .before .before .before .before .before .before .before .before .before .before .args .a) back (c .before .before .before .before .before .before .before .before .before .before .before .before .before .before .before .before .before .before .before .before .before .before .before .before .before .before .before .before .before .before .before .before .before .before .before .before .before .before .before .before .before .before .before .before .before .child .ensures) (c .before .before .before .before .before .before .before .before .before .before .before .before .before .before .before .before .before .before .before .before .before .before .before .before .before .before .before .before .before .before .before .before .before .before .before .before .before .before .before .before .before .before .before .before .before .before .edge-of .ensures)) (half-of _ (c .before .before .before .before .before .before .before .before .before .before .before .before .before .before .before .before .before .before .before .before .before .before .before .before .before .before .before .before .before .before .before .before .before .before .before .before .before .before .before .before .before .before .before .before .before .before .before .before .before .before .before .before .before .before .before .args .b) back (c .before .before .before .before .before .before .before .before .before .before .before .before .before .before .before .before .before .before .before .before .before .before .before .before .before .before .before .before .before .before .before .before .before .before .before .before .before .before .before .before .before .before .child2 .ensures) (c .before .before .before .before .before .before .before .before .before .before .before .before .before .before .before .before .before .before .before .before .before .before .before .before .before .before .before .before .before .before .before .before .before .before .before .before .before .before .before .before .before .before .before .edge-of2 .ensures)) (c .before .before .before .before .before .before .before .before .before .before .before .before .before .before .before .before .before .before .before .before .before .before .before .before .before .before .before .before .before .before .before .before .before .before .before .before .conjoin .ensures) (not-false _ (c .before .before .before .before .before .before .before .before .before .before .before .before .before .before .before .before .before .before .before .before .before .before .before .before .before .if2 .left)) (half-still (c .before .before .before .before .before .before .before .before .before .before .before .before .before .before .before .before .before .before .before .before .before .before .before .before .before .before .before .before .before .before .before .before .before .before .before .before .conjoin .ensures) (c .before .before .before .before .before .before .before .before .before .before .before .before .before .before .before .before .before .before .before .before .before .before .before .before .before .before .before .before .before .before .before .before .before .before .before .before .before .before .before .before .before .before .before .before .before .before .before .before .before .before .before .before .before .before .before .args .a) (not back) (c .before .before .before .before .before .before .before .before .before .before .before .before .before .before .before .before .before .before .before .before .before .before .before .before .before .before .before .before .before .before .before .before .before .before .before .before .before .before .before .before .before .before .before .before .before .before .before .before .before .before .before .before .before .before .before .pre .1 .1 .left) (c .before .before .before .before .before .before .before .before .before .before .before .before .before .before .before .before .before .before .before .before .child3 .ensures) (c .before .before .before .before .before .before .before .before .before .before .before .before .before .before .before .before .before .before .before .before .before .edge-of3 .ensures)) (half-still (c .before .before .before .before .before .before .before .before .before .before .before .before .before .before .before .before .before .before .before .before .before .before .before .before .before .before .before .before .before .before .before .before .before .before .before .before .conjoin .ensures) (c .before .before .before .before .before .before .before .before .before .before .before .before .before .before .before .before .before .before .before .before .before .before .before .before .before .before .before .before .before .before .before .before .before .before .before .before .before .before .before .before .before .before .before .before .before .before .before .before .before .before .before .before .before .before .before .args .b) (not back) (c .before .before .before .before .before .before .before .before .before .before .before .before .before .before .before .before .before .before .before .before .before .before .before .before .before .before .before .before .before .before .before .before .before .before .before .before .before .before .before .before .before .before .before .before .before .before .before .before .before .before .before .before .before .before .before .pre .1 .1 .right) (c .before .before .before .before .before .before .before .before .before .before .before .before .before .before .before .before .before .child4 .ensures) (c .before .before .before .before .before .before .before .before .before .before .before .before .before .before .before .before .before .before .edge-of4 .ensures)) (c .before .before .before .before .before .before .before .before .before .before .before .conjoin2 .ensures) (not-true _ (c .if3 .taken)))
 
-apply-first-unless-requires : (t : ℕ) → apply-lts.Need-first-unless-requires (
-  apply-ranges-below t,
-  apply-ranges.Post,
-  edge-of-reads.Asked,
-  edge-of-reads.Learnt,
-  child-reads.Asked,
-  child-reads.Learnt,
-  conjoin-below t,
-  conjoin.Post,
-  first-unless-reads.Asked,
-  first-unless-reads.Learnt,
-  create-pair-reads.Asked,
-  create-pair-reads.Learnt,
-) (apply-at t) apply.Post
-apply-first-unless-requires t c κs = search needs
-
-apply-first-unless-requires-2 : (t : ℕ) → apply-lts.Need-first-unless-requires-2 (
-  apply-ranges-below t,
-  apply-ranges.Post,
-  edge-of-reads.Asked,
-  edge-of-reads.Learnt,
-  child-reads.Asked,
-  child-reads.Learnt,
-  conjoin-below t,
-  conjoin.Post,
-  first-unless-reads.Asked,
-  first-unless-reads.Learnt,
-  create-pair-reads.Asked,
-  create-pair-reads.Learnt,
-) (apply-at t) apply.Post
-apply-first-unless-requires-2 t c κs = search needs
-
-apply-create-pair-requires : (t : ℕ) → apply-lts.Need-create-pair-requires (
-  apply-ranges-below t,
-  apply-ranges.Post,
-  edge-of-reads.Asked,
-  edge-of-reads.Learnt,
-  child-reads.Asked,
-  child-reads.Learnt,
-  conjoin-below t,
-  conjoin.Post,
-  first-unless-reads.Asked,
-  first-unless-reads.Learnt,
-  create-pair-reads.Asked,
-  create-pair-reads.Learnt,
-) (apply-at t) apply.Post
+apply-create-pair-requires : (t : ℕ) → apply-lts.Need-create-pair-requires (apply-claims t) (apply-at t) apply.Post
 apply-create-pair-requires t c κs = let back = not (eqb (c .before .before .before .before .before .before .before .before .before .before .before .before .before .before .before .before .before .before .before .before .before .before .before .before .before .before .before .before .before .before .before .before .before .before .before .before .before .before .before .before .before .before .before .before .before .before .before .before .before .before .before .before .before .before .before .before .before .before .before .before .before .before .before .args .a .count) (c .before .before .before .before .before .before .before .before .before .before .before .before .before .before .before .before .before .before .before .before .before .before .before .before .before .before .before .before .before .before .before .before .before .before .before .before .before .before .before .before .before .before .before .before .before .before .before .before .before .before .before .before .before .before .before .before .before .before .before .before .before .before .before .args .b .count)) in let kids = can-pair (conj-walk _ _) (c .before .before .before .before .before .before .before .before .before .before .before .before .before .before .before .before .before .before .before .before .before .before .before .before .before .before .before .before .before .before .before .before .before .before .before .before .before .before .before .before .before .before .before .before .before .before .before .before .before .before .before .before .before .before .before .before .before .before .before .before .before .before .before .pre .1 .0) (c .before .before .before .before .before .before .before .before .before .before .before .before .before .before .before .before .before .before .before .before .before .before .before .before .before .before .before .before .before .before .before .before .before .before .before .before .before .before .before .before .before .before .before .before .before .before .before .before .before .before .before .before .before .before .before .before .before .before .if1 .left) (c .before .before .before .before .before .before .before .before .before .before .before .before .before .before .before .before .before .before .before .before .before .before .before .before .before .before .before .before .before .before .before .before .before .before .before .before .before .before .before .before .before .before .before .before .before .before .before .before .before .before .before .before .before .before .before .before .before .before .before .before .before .before .before .pre .1 .1) back (half-of _ (c .before .before .before .before .before .before .before .before .before .before .before .before .before .before .before .before .before .before .before .before .before .before .before .before .before .before .before .before .before .before .before .before .before .before .before .before .before .before .before .before .before .before .before .before .before .before .before .before .before .before .before .before .before .before .before .before .before .before .before .before .before .before .before .args .a) back (c .before .before .before .before .before .before .before .before .before .before .before .before .before .before .before .before .before .before .before .before .before .before .before .before .before .before .before .before .before .before .before .before .before .before .before .before .before .before .before .before .before .before .before .before .before .before .before .before .before .before .before .before .before .child .ensures) (c .before .before .before .before .before .before .before .before .before .before .before .before .before .before .before .before .before .before .before .before .before .before .before .before .before .before .before .before .before .before .before .before .before .before .before .before .before .before .before .before .before .before .before .before .before .before .before .before .before .before .before .before .before .before .edge-of .ensures)) (half-of _ (c .before .before .before .before .before .before .before .before .before .before .before .before .before .before .before .before .before .before .before .before .before .before .before .before .before .before .before .before .before .before .before .before .before .before .before .before .before .before .before .before .before .before .before .before .before .before .before .before .before .before .before .before .before .before .before .before .before .before .before .before .before .before .before .args .b) back (c .before .before .before .before .before .before .before .before .before .before .before .before .before .before .before .before .before .before .before .before .before .before .before .before .before .before .before .before .before .before .before .before .before .before .before .before .before .before .before .before .before .before .before .before .before .before .before .before .before .before .child2 .ensures) (c .before .before .before .before .before .before .before .before .before .before .before .before .before .before .before .before .before .before .before .before .before .before .before .before .before .before .before .before .before .before .before .before .before .before .before .before .before .before .before .before .before .before .before .before .before .before .before .before .before .before .before .edge-of2 .ensures)) (c .before .before .before .before .before .before .before .before .before .before .before .before .before .before .before .before .before .before .before .before .before .before .before .before .before .before .before .before .before .before .before .before .before .before .before .before .before .before .before .before .before .before .before .before .conjoin .ensures) (not-false _ (c .before .before .before .before .before .before .before .before .before .before .before .before .before .before .before .before .before .before .before .before .before .before .before .before .before .before .before .before .before .before .before .before .before .if2 .left)) (half-still (c .before .before .before .before .before .before .before .before .before .before .before .before .before .before .before .before .before .before .before .before .before .before .before .before .before .before .before .before .before .before .before .before .before .before .before .before .before .before .before .before .before .before .before .before .conjoin .ensures) (c .before .before .before .before .before .before .before .before .before .before .before .before .before .before .before .before .before .before .before .before .before .before .before .before .before .before .before .before .before .before .before .before .before .before .before .before .before .before .before .before .before .before .before .before .before .before .before .before .before .before .before .before .before .before .before .before .before .before .before .before .before .before .before .args .a) (not back) (c .before .before .before .before .before .before .before .before .before .before .before .before .before .before .before .before .before .before .before .before .before .before .before .before .before .before .before .before .before .before .before .before .before .before .before .before .before .before .before .before .before .before .before .before .before .before .before .before .before .before .before .before .before .before .before .before .before .before .before .before .before .before .before .pre .1 .1 .left) (c .before .before .before .before .before .before .before .before .before .before .before .before .before .before .before .before .before .before .before .before .before .before .before .before .before .before .before .before .child3 .ensures) (c .before .before .before .before .before .before .before .before .before .before .before .before .before .before .before .before .before .before .before .before .before .before .before .before .before .before .before .before .before .edge-of3 .ensures)) (half-still (c .before .before .before .before .before .before .before .before .before .before .before .before .before .before .before .before .before .before .before .before .before .before .before .before .before .before .before .before .before .before .before .before .before .before .before .before .before .before .before .before .before .before .before .before .conjoin .ensures) (c .before .before .before .before .before .before .before .before .before .before .before .before .before .before .before .before .before .before .before .before .before .before .before .before .before .before .before .before .before .before .before .before .before .before .before .before .before .before .before .before .before .before .before .before .before .before .before .before .before .before .before .before .before .before .before .before .before .before .before .before .before .before .before .args .b) (not back) (c .before .before .before .before .before .before .before .before .before .before .before .before .before .before .before .before .before .before .before .before .before .before .before .before .before .before .before .before .before .before .before .before .before .before .before .before .before .before .before .before .before .before .before .before .before .before .before .before .before .before .before .before .before .before .before .before .before .before .before .before .before .before .before .pre .1 .1 .right) (c .before .before .before .before .before .before .before .before .before .before .before .before .before .before .before .before .before .before .before .before .before .before .before .before .before .child4 .ensures) (c .before .before .before .before .before .before .before .before .before .before .before .before .before .before .before .before .before .before .before .before .before .before .before .before .before .before .edge-of4 .ensures)) (c .before .before .before .before .before .before .before .before .before .before .before .before .before .before .before .before .before .before .before .conjoin2 .ensures) (not-false _ (c .before .before .before .before .before .before .before .before .if3 .left)) (c .before .before .before .before .before .first-unless .ensures) (c .before .before .before .before .first-unless2 .ensures) in ((c .before .before .before .before .before .before .before .before .before .before .before .before .before .before .before .before .before .before .before .conjoin2 .ensures .outcome .lent), (c .before .before .before .before .before .before .before .before .before .before .before .before .before .before .before .before .before .before .before .before .before .before .before .before .before .before .before .before .before .before .before .before .before .before .before .before .before .before .before .before .before .before .before .before .before .before .before .before .before .before .before .before .before .before .before .before .before .before .if1 .left), (c .before .before .before .before .before .before .before .before .before .before .before .before .before .before .before .before .before .before .before .before .before .before .before .before .before .before .before .before .before .before .before .before .before .before .before .before .before .before .before .before .before .before .before .before .before .before .before .before .before .before .before .before .before .before .before .before .before .before .before .before .before .before .before .pre .1 .1 .known), kids .0, kids .1)
 
-apply-same-length-16 : (t : ℕ) → apply-lts.Need-same-length-16 (
-  apply-ranges-below t,
-  apply-ranges.Post,
-  edge-of-reads.Asked,
-  edge-of-reads.Learnt,
-  child-reads.Asked,
-  child-reads.Learnt,
-  conjoin-below t,
-  conjoin.Post,
-  first-unless-reads.Asked,
-  first-unless-reads.Learnt,
-  create-pair-reads.Asked,
-  create-pair-reads.Learnt,
-) (apply-at t) apply.Post
+apply-same-length-16 : (t : ℕ) → apply-lts.Need-same-length-16 (apply-claims t) (apply-at t) apply.Post
 apply-same-length-16 t c = (then-made (c .before .before .before .before .before .before .before .before .before .before .before .before .before .before .before .before .before .before .before .before .before .before .before .before .before .before .before .before .before .before .before .before .before .before .before .before .before .before .before .before .before .before .before .before .before .before .before .before .before .before .before .before .before .before .before .before .before .before .before .before .before .before .before .before .before .before .before .before .before .before .before .pre .1 .0) (then (c .before .before .before .before .before .before .before .before .before .before .before .before .before .before .before .before .before .before .before .before .before .before .before .before .before .before .before .before .before .before .before .before .before .before .before .before .before .before .before .before .before .before .before .before .before .before .before .before .before .before .before .before .before .before .before .before .before .before .before .before .before .before .before .before .before .before .before .before .before .before .before .pre .1 .0) (c .before .before .before .before .before .before .before .before .before .before .before .before .before .before .before .before .before .before .before .before .before .before .before .before .before .before .before .before .before .before .before .before .before .before .before .before .before .before .before .before .before .before .before .before .before .before .before .before .before .before .before .before .conjoin .ensures) (c .before .before .before .before .before .before .before .before .before .before .before .before .before .before .before .before .before .before .before .before .before .before .before .before .before .before .before .conjoin2 .ensures)) entry-grown (c .before .before .before .before .before .before .before .create-pair .ensures .0)) .outcome .stays .long
 
-apply-same-length-17 : (t : ℕ) → apply-lts.Need-same-length-17 (
-  apply-ranges-below t,
-  apply-ranges.Post,
-  edge-of-reads.Asked,
-  edge-of-reads.Learnt,
-  child-reads.Asked,
-  child-reads.Learnt,
-  conjoin-below t,
-  conjoin.Post,
-  first-unless-reads.Asked,
-  first-unless-reads.Learnt,
-  create-pair-reads.Asked,
-  create-pair-reads.Learnt,
-) (apply-at t) apply.Post
+apply-same-length-17 : (t : ℕ) → apply-lts.Need-same-length-17 (apply-claims t) (apply-at t) apply.Post
 apply-same-length-17 t c = (then-made (c .before .before .before .before .before .before .before .before .before .before .before .before .before .before .before .before .before .before .before .before .before .before .before .before .before .before .before .before .before .before .before .before .before .before .before .before .before .before .before .before .before .before .before .before .before .before .before .before .before .before .before .before .before .before .before .before .before .before .before .before .before .before .before .before .before .before .before .before .before .before .before .pre .1 .0) (then (c .before .before .before .before .before .before .before .before .before .before .before .before .before .before .before .before .before .before .before .before .before .before .before .before .before .before .before .before .before .before .before .before .before .before .before .before .before .before .before .before .before .before .before .before .before .before .before .before .before .before .before .before .before .before .before .before .before .before .before .before .before .before .before .before .before .before .before .before .before .before .before .pre .1 .0) (c .before .before .before .before .before .before .before .before .before .before .before .before .before .before .before .before .before .before .before .before .before .before .before .before .before .before .before .before .before .before .before .before .before .before .before .before .before .before .before .before .before .before .before .before .before .before .before .before .before .before .before .before .conjoin .ensures) (c .before .before .before .before .before .before .before .before .before .before .before .before .before .before .before .before .before .before .before .before .before .before .before .before .before .before .before .conjoin2 .ensures)) entry-grown (c .before .before .before .before .before .before .before .create-pair .ensures .0)) .outcome .stays .wide
 
-apply-same-length-18 : (t : ℕ) → apply-lts.Need-same-length-18 (
-  apply-ranges-below t,
-  apply-ranges.Post,
-  edge-of-reads.Asked,
-  edge-of-reads.Learnt,
-  child-reads.Asked,
-  child-reads.Learnt,
-  conjoin-below t,
-  conjoin.Post,
-  first-unless-reads.Asked,
-  first-unless-reads.Learnt,
-  create-pair-reads.Asked,
-  create-pair-reads.Learnt,
-) (apply-at t) apply.Post
+apply-same-length-18 : (t : ℕ) → apply-lts.Need-same-length-18 (apply-claims t) (apply-at t) apply.Post
 apply-same-length-18 t c = cuts-long (c .before .before .before .before .before .before .before .before .before .before .before .before .before .before .before .before .before .before .before .before .before .before .before .before .before .before .before .before .before .before .before .before .before .before .before .before .before .before .before .before .before .before .before .before .before .before .before .before .before .before .before .before .before .before .before .before .before .before .before .before .before .before .before .before .before .before .before .before .before .before .before .pre .1 .0) ((then-made (c .before .before .before .before .before .before .before .before .before .before .before .before .before .before .before .before .before .before .before .before .before .before .before .before .before .before .before .before .before .before .before .before .before .before .before .before .before .before .before .before .before .before .before .before .before .before .before .before .before .before .before .before .before .before .before .before .before .before .before .before .before .before .before .before .before .before .before .before .before .before .before .pre .1 .0) (then (c .before .before .before .before .before .before .before .before .before .before .before .before .before .before .before .before .before .before .before .before .before .before .before .before .before .before .before .before .before .before .before .before .before .before .before .before .before .before .before .before .before .before .before .before .before .before .before .before .before .before .before .before .before .before .before .before .before .before .before .before .before .before .before .before .before .before .before .before .before .before .before .pre .1 .0) (c .before .before .before .before .before .before .before .before .before .before .before .before .before .before .before .before .before .before .before .before .before .before .before .before .before .before .before .before .before .before .before .before .before .before .before .before .before .before .before .before .before .before .before .before .before .before .before .before .before .before .before .before .conjoin .ensures) (c .before .before .before .before .before .before .before .before .before .before .before .before .before .before .before .before .before .before .before .before .before .before .before .before .before .before .before .conjoin2 .ensures)) entry-grown (c .before .before .before .before .before .before .before .create-pair .ensures .0)))
 
-apply-same-length-19 : (t : ℕ) → apply-lts.Need-same-length-19 (
-  apply-ranges-below t,
-  apply-ranges.Post,
-  edge-of-reads.Asked,
-  edge-of-reads.Learnt,
-  child-reads.Asked,
-  child-reads.Learnt,
-  conjoin-below t,
-  conjoin.Post,
-  first-unless-reads.Asked,
-  first-unless-reads.Learnt,
-  create-pair-reads.Asked,
-  create-pair-reads.Learnt,
-) (apply-at t) apply.Post
+apply-same-length-19 : (t : ℕ) → apply-lts.Need-same-length-19 (apply-claims t) (apply-at t) apply.Post
 apply-same-length-19 t c = index-long (c .before .before .before .before .before .before .before .before .before .before .before .before .before .before .before .before .before .before .before .before .before .before .before .before .before .before .before .before .before .before .before .before .before .before .before .before .before .before .before .before .before .before .before .before .before .before .before .before .before .before .before .before .before .before .before .before .before .before .before .before .before .before .before .before .before .before .before .before .before .before .before .pre .1 .0) ((then-made (c .before .before .before .before .before .before .before .before .before .before .before .before .before .before .before .before .before .before .before .before .before .before .before .before .before .before .before .before .before .before .before .before .before .before .before .before .before .before .before .before .before .before .before .before .before .before .before .before .before .before .before .before .before .before .before .before .before .before .before .before .before .before .before .before .before .before .before .before .before .before .before .pre .1 .0) (then (c .before .before .before .before .before .before .before .before .before .before .before .before .before .before .before .before .before .before .before .before .before .before .before .before .before .before .before .before .before .before .before .before .before .before .before .before .before .before .before .before .before .before .before .before .before .before .before .before .before .before .before .before .before .before .before .before .before .before .before .before .before .before .before .before .before .before .before .before .before .before .before .pre .1 .0) (c .before .before .before .before .before .before .before .before .before .before .before .before .before .before .before .before .before .before .before .before .before .before .before .before .before .before .before .before .before .before .before .before .before .before .before .before .before .before .before .before .before .before .before .before .before .before .before .before .before .before .before .before .conjoin .ensures) (c .before .before .before .before .before .before .before .before .before .before .before .before .before .before .before .before .before .before .before .before .before .before .before .before .before .before .before .conjoin2 .ensures)) entry-grown (c .before .before .before .before .before .before .before .create-pair .ensures .0)))
 
-apply-same-length-20 : (t : ℕ) → apply-lts.Need-same-length-20 (
-  apply-ranges-below t,
-  apply-ranges.Post,
-  edge-of-reads.Asked,
-  edge-of-reads.Learnt,
-  child-reads.Asked,
-  child-reads.Learnt,
-  conjoin-below t,
-  conjoin.Post,
-  first-unless-reads.Asked,
-  first-unless-reads.Learnt,
-  create-pair-reads.Asked,
-  create-pair-reads.Learnt,
-) (apply-at t) apply.Post
+apply-same-length-20 : (t : ℕ) → apply-lts.Need-same-length-20 (apply-claims t) (apply-at t) apply.Post
 apply-same-length-20 t c = (then-made (c .before .before .before .before .before .before .before .before .before .before .before .before .before .before .before .before .before .before .before .before .before .before .before .before .before .before .before .before .before .before .before .before .before .before .before .before .before .before .before .before .before .before .before .before .before .before .before .before .before .before .before .before .before .before .before .before .before .before .before .before .before .before .before .before .before .before .before .before .before .before .before .pre .1 .0) (then (c .before .before .before .before .before .before .before .before .before .before .before .before .before .before .before .before .before .before .before .before .before .before .before .before .before .before .before .before .before .before .before .before .before .before .before .before .before .before .before .before .before .before .before .before .before .before .before .before .before .before .before .before .before .before .before .before .before .before .before .before .before .before .before .before .before .before .before .before .before .before .before .pre .1 .0) (c .before .before .before .before .before .before .before .before .before .before .before .before .before .before .before .before .before .before .before .before .before .before .before .before .before .before .before .before .before .before .before .before .before .before .before .before .before .before .before .before .before .before .before .before .before .before .before .before .before .before .before .before .conjoin .ensures) (c .before .before .before .before .before .before .before .before .before .before .before .before .before .before .before .before .before .before .before .before .before .before .before .before .before .before .before .conjoin2 .ensures)) entry-grown (c .before .before .before .before .before .before .before .create-pair .ensures .0)) .long
 
-apply-returns-4 : (t : ℕ) → apply-lts.Need-returns-4 (
-  apply-ranges-below t,
-  apply-ranges.Post,
-  edge-of-reads.Asked,
-  edge-of-reads.Learnt,
-  child-reads.Asked,
-  child-reads.Learnt,
-  conjoin-below t,
-  conjoin.Post,
-  first-unless-reads.Asked,
-  first-unless-reads.Learnt,
-  create-pair-reads.Asked,
-  create-pair-reads.Learnt,
-) (apply-at t) apply.Post
+apply-returns-4 : (t : ℕ) → apply-lts.Need-returns-4 (apply-claims t) (apply-at t) apply.Post
 apply-returns-4 t c = let back = not (eqb (c .before .before .before .before .before .before .before .before .before .before .before .before .before .before .before .before .before .before .before .before .before .before .before .before .before .before .before .before .before .before .before .before .before .before .before .before .before .before .before .before .before .before .before .before .before .before .before .before .before .before .before .before .before .before .before .before .before .before .before .before .before .before .before .before .before .before .before .before .before .before .before .args .a .count) (c .before .before .before .before .before .before .before .before .before .before .before .before .before .before .before .before .before .before .before .before .before .before .before .before .before .before .before .before .before .before .before .before .before .before .before .before .before .before .before .before .before .before .before .before .before .before .before .before .before .before .before .before .before .before .before .before .before .before .before .before .before .before .before .before .before .before .before .before .before .before .before .args .b .count)) in by-tests (c .before .before .before .before .before .before .before .before .before .before .before .before .before .before .before .before .before .before .before .before .before .before .before .before .before .before .before .before .before .before .before .before .before .before .before .before .before .before .before .before .before .before .before .before .before .before .before .before .before .before .before .before .before .before .before .before .before .before .before .before .before .before .before .before .before .before .before .before .before .before .before .args .head) (c .before .before .before .before .before .before .before .before .before .before .before .before .before .before .before .before .before .before .before .before .before .before .before .before .before .before .before .before .before .before .before .before .before .before .before .before .before .before .before .before .before .before .before .before .before .before .before .before .before .before .before .before .before .before .before .before .before .before .before .before .before .before .before .before .before .before .before .before .before .before .before .args .nodes .now) (c .before .before .before .before .before .before .before .before .before .before .before .before .before .before .before .before .before .before .before .before .before .before .before .before .before .before .before .before .before .before .before .before .before .before .before .before .before .before .before .before .before .before .before .before .before .before .before .before .before .before .before .before .before .before .before .before .before .before .before .before .before .before .before .before .before .before .before .before .before .before .before .args .children .now) (c .before .before .before .before .before .before .before .before .before .before .before .before .before .before .before .before .before .before .before .before .before .before .before .before .before .before .before .before .before .before .before .before .before .before .before .before .before .before .before .before .before .before .before .before .before .before .before .before .before .before .before .before .before .before .before .before .before .before .before .before .before .before .before .before .before .before .before .before .before .before .before .args .cuts .now) (c .before .before .before .before .before .before .before .before .before .before .before .before .before .before .before .before .before .before .before .before .before .before .before .before .before .before .before .before .before .before .before .before .before .before .before .before .before .before .before .before .before .before .before .before .before .before .before .before .before .before .before .before .before .before .before .before .before .before .before .before .before .before .before .before .before .before .before .before .before .before .before .args .memo .now) (c .before .before .before .before .before .before .before .before .before .before .before .before .before .before .before .before .before .before .before .before .before .before .before .before .before .before .before .before .before .before .before .before .before .before .before .before .before .before .before .before .before .before .before .before .before .before .before .before .before .before .before .before .before .before .before .before .before .before .before .before .before .before .before .before .before .before .before .before .before .before .before .args .a) (c .before .before .before .before .before .before .before .before .before .before .before .before .before .before .before .before .before .before .before .before .before .before .before .before .before .before .before .before .before .before .before .before .before .before .before .before .before .before .before .before .before .before .before .before .before .before .before .before .before .before .before .before .before .before .before .before .before .before .before .before .before .before .before .before .before .before .before .before .before .before .before .args .b) (c .before .before .before .before .before .before .before .before .before .before .before .before .before .before .before .before .before .before .before .before .before .before .before .before .before .before .before .before .before .before .before .before .before .before .before .before .before .before .before .before .before .before .before .before .before .before .before .before .before .before .before .before .before .before .before .before .before .before .before .before .before .before .before .before .before .before .before .before .before .before .before .args .v) (c .before .before .before .before .before .before .before .before .before .before .before .before .before .before .before .before .before .before .before .before .before .before .before .before .before .before .before .before .before .before .before .before .before .before .before .before .before .before .before .before .before .before .before .before .before .before .before .before .before .before .before .before .before .before .before .before .before .before .before .before .before .before .before .before .before .before .before .before .before .before .before .args .ahead) (c .before .before .before .before .before .before .before .before .before .before .before .before .before .before .before .before .before .before .before .before .before .before .before .before .before .before .before .before .before .before .before .before .before .before .before .before .before .before .before .before .before .before .before .before .before .before .before .before .before .before .before .before .before .before .before .before .before .before .before .before .before .before .before .before .before .before .if1 .left) (built-it (conj-walk _ _) (c .before .before .before .before .before .before .before .before .before .before .before .before .before .before .before .before .before .before .before .before .before .before .before .before .before .before .before .before .before .before .before .before .before .before .before .before .before .before .before .before .before .before .before .before .before .before .before .before .before .before .before .before .before .before .before .before .before .before .before .before .before .before .before .before .before .before .before .before .before .before .before .pre .1 .0) (c .before .before .before .before .before .before .before .before .before .before .before .before .before .before .before .before .before .before .before .before .before .before .before .before .before .before .before .before .before .before .before .before .before .before .before .before .before .before .before .before .before .before .before .before .before .before .before .before .before .before .before .before .before .before .before .before .before .before .before .before .before .before .before .before .before .before .if1 .left) (c .before .before .before .before .before .before .before .before .before .before .before .before .before .before .before .before .before .before .before .before .before .before .before .before .before .before .before .before .before .before .before .before .before .before .before .before .before .before .before .before .before .before .before .before .before .before .before .before .before .before .before .before .before .before .before .before .before .before .before .before .before .before .before .before .before .before .before .before .before .before .before .pre .1 .1) back (half-of _ (c .before .before .before .before .before .before .before .before .before .before .before .before .before .before .before .before .before .before .before .before .before .before .before .before .before .before .before .before .before .before .before .before .before .before .before .before .before .before .before .before .before .before .before .before .before .before .before .before .before .before .before .before .before .before .before .before .before .before .before .before .before .before .before .before .before .before .before .before .before .before .before .args .a) back (c .before .before .before .before .before .before .before .before .before .before .before .before .before .before .before .before .before .before .before .before .before .before .before .before .before .before .before .before .before .before .before .before .before .before .before .before .before .before .before .before .before .before .before .before .before .before .before .before .before .before .before .before .before .before .before .before .before .before .before .before .before .child .ensures) (c .before .before .before .before .before .before .before .before .before .before .before .before .before .before .before .before .before .before .before .before .before .before .before .before .before .before .before .before .before .before .before .before .before .before .before .before .before .before .before .before .before .before .before .before .before .before .before .before .before .before .before .before .before .before .before .before .before .before .before .before .before .before .edge-of .ensures)) (half-of _ (c .before .before .before .before .before .before .before .before .before .before .before .before .before .before .before .before .before .before .before .before .before .before .before .before .before .before .before .before .before .before .before .before .before .before .before .before .before .before .before .before .before .before .before .before .before .before .before .before .before .before .before .before .before .before .before .before .before .before .before .before .before .before .before .before .before .before .before .before .before .before .before .args .b) back (c .before .before .before .before .before .before .before .before .before .before .before .before .before .before .before .before .before .before .before .before .before .before .before .before .before .before .before .before .before .before .before .before .before .before .before .before .before .before .before .before .before .before .before .before .before .before .before .before .before .before .before .before .before .before .before .before .before .before .child2 .ensures) (c .before .before .before .before .before .before .before .before .before .before .before .before .before .before .before .before .before .before .before .before .before .before .before .before .before .before .before .before .before .before .before .before .before .before .before .before .before .before .before .before .before .before .before .before .before .before .before .before .before .before .before .before .before .before .before .before .before .before .before .edge-of2 .ensures)) (c .before .before .before .before .before .before .before .before .before .before .before .before .before .before .before .before .before .before .before .before .before .before .before .before .before .before .before .before .before .before .before .before .before .before .before .before .before .before .before .before .before .before .before .before .before .before .before .before .before .before .before .before .conjoin .ensures) (not-false _ (c .before .before .before .before .before .before .before .before .before .before .before .before .before .before .before .before .before .before .before .before .before .before .before .before .before .before .before .before .before .before .before .before .before .before .before .before .before .before .before .before .before .if2 .left)) (half-still (c .before .before .before .before .before .before .before .before .before .before .before .before .before .before .before .before .before .before .before .before .before .before .before .before .before .before .before .before .before .before .before .before .before .before .before .before .before .before .before .before .before .before .before .before .before .before .before .before .before .before .before .before .conjoin .ensures) (c .before .before .before .before .before .before .before .before .before .before .before .before .before .before .before .before .before .before .before .before .before .before .before .before .before .before .before .before .before .before .before .before .before .before .before .before .before .before .before .before .before .before .before .before .before .before .before .before .before .before .before .before .before .before .before .before .before .before .before .before .before .before .before .before .before .before .before .before .before .before .before .args .a) (not back) (c .before .before .before .before .before .before .before .before .before .before .before .before .before .before .before .before .before .before .before .before .before .before .before .before .before .before .before .before .before .before .before .before .before .before .before .before .before .before .before .before .before .before .before .before .before .before .before .before .before .before .before .before .before .before .before .before .before .before .before .before .before .before .before .before .before .before .before .before .before .before .before .pre .1 .1 .left) (c .before .before .before .before .before .before .before .before .before .before .before .before .before .before .before .before .before .before .before .before .before .before .before .before .before .before .before .before .before .before .before .before .before .before .before .before .child3 .ensures) (c .before .before .before .before .before .before .before .before .before .before .before .before .before .before .before .before .before .before .before .before .before .before .before .before .before .before .before .before .before .before .before .before .before .before .before .before .before .edge-of3 .ensures)) (half-still (c .before .before .before .before .before .before .before .before .before .before .before .before .before .before .before .before .before .before .before .before .before .before .before .before .before .before .before .before .before .before .before .before .before .before .before .before .before .before .before .before .before .before .before .before .before .before .before .before .before .before .before .before .conjoin .ensures) (c .before .before .before .before .before .before .before .before .before .before .before .before .before .before .before .before .before .before .before .before .before .before .before .before .before .before .before .before .before .before .before .before .before .before .before .before .before .before .before .before .before .before .before .before .before .before .before .before .before .before .before .before .before .before .before .before .before .before .before .before .before .before .before .before .before .before .before .before .before .before .before .args .b) (not back) (c .before .before .before .before .before .before .before .before .before .before .before .before .before .before .before .before .before .before .before .before .before .before .before .before .before .before .before .before .before .before .before .before .before .before .before .before .before .before .before .before .before .before .before .before .before .before .before .before .before .before .before .before .before .before .before .before .before .before .before .before .before .before .before .before .before .before .before .before .before .before .before .pre .1 .1 .right) (c .before .before .before .before .before .before .before .before .before .before .before .before .before .before .before .before .before .before .before .before .before .before .before .before .before .before .before .before .before .before .before .before .before .child4 .ensures) (c .before .before .before .before .before .before .before .before .before .before .before .before .before .before .before .before .before .before .before .before .before .before .before .before .before .before .before .before .before .before .before .before .before .before .edge-of4 .ensures)) (c .before .before .before .before .before .before .before .before .before .before .before .before .before .before .before .before .before .before .before .before .before .before .before .before .before .before .before .conjoin2 .ensures) (not-false _ (c .before .before .before .before .before .before .before .before .before .before .before .before .before .before .before .before .if3 .left)) (c .before .before .before .before .before .before .before .before .before .before .before .before .before .first-unless .ensures) (c .before .before .before .before .before .before .before .before .before .before .before .before .first-unless2 .ensures) (c .before .before .before .before .before .before .before .create-pair .ensures .0))
 
 abbrev apply-ranges-Inv-loop : apply-ranges-lts.InvT-loop
@@ -688,911 +197,149 @@ apply-ranges-Inv-loop nodes₀ children₀ cuts₀ index₀ memo₀ a b v ahead 
 abbrev apply-ranges-μ-loop : apply-ranges-lts.MeasureT-loop
 apply-ranges-μ-loop nodes₀ children₀ cuts₀ index₀ memo₀ a b v ahead out₀ now₀ last₀ len₀ i₀ j₀ ok₀ more₀ nodes children cuts index memo out now last len i j ok more = still a b i j more
 
-apply-ranges-new-requires : (t : ℕ) → apply-ranges-lts.Need-new-requires (
-  new-reads.Asked,
-  new-reads.Learnt,
-  child-reads.Asked,
-  child-reads.Learnt,
-  cut-reads.Asked,
-  cut-reads.Learnt,
-  conjoin-below t,
-  conjoin.Post,
-  slot-for-reads.Asked,
-  slot-for-reads.Learnt,
-  advance-reads.Asked,
-  advance-reads.Learnt,
-  create-node-reads.Asked,
-  create-node-reads.Learnt,
-) (apply-ranges-at t) apply-ranges.Post apply-ranges-Inv-loop apply-ranges-μ-loop
-apply-ranges-new-requires t c κs = search needs
-
-apply-ranges-loop-holds : (t : ℕ) → apply-ranges-lts.Need-loop-holds (
-  new-reads.Asked,
-  new-reads.Learnt,
-  child-reads.Asked,
-  child-reads.Learnt,
-  cut-reads.Asked,
-  cut-reads.Learnt,
-  conjoin-below t,
-  conjoin.Post,
-  slot-for-reads.Asked,
-  slot-for-reads.Learnt,
-  advance-reads.Asked,
-  advance-reads.Learnt,
-  create-node-reads.Asked,
-  create-node-reads.Learnt,
-) (apply-ranges-at t) apply-ranges.Post apply-ranges-Inv-loop apply-ranges-μ-loop
+apply-ranges-loop-holds : (t : ℕ) → apply-ranges-lts.Need-loop-holds (apply-ranges-claims t) (apply-ranges-at t) apply-ranges.Post apply-ranges-Inv-loop apply-ranges-μ-loop
 apply-ranges-loop-holds t c = loop-starts (conj-walk _ _) ((c .before .before .before .before .before .args .head)) ((c .before .before .before .before .before .args .nodes .now)) ((c .before .before .before .before .before .args .children .now)) ((c .before .before .before .before .before .args .cuts .now)) ((c .before .before .before .before .before .args .memo .now)) ((c .before .before .before .before .before .args .a)) ((c .before .before .before .before .before .args .b)) ((c .before .before .before .before .before .pre .1 .0)) ((c .before .before .before .before .before .pre .1 .1)) ((c .before .before .before .before .before .pre .1 .2)) ((c .new .result)) ((c .new .ensures .0)) _
 
-apply-ranges-child-requires : (t : ℕ) → apply-ranges-lts.Need-child-requires (
-  new-reads.Asked,
-  new-reads.Learnt,
-  child-reads.Asked,
-  child-reads.Learnt,
-  cut-reads.Asked,
-  cut-reads.Learnt,
-  conjoin-below t,
-  conjoin.Post,
-  slot-for-reads.Asked,
-  slot-for-reads.Learnt,
-  advance-reads.Asked,
-  advance-reads.Learnt,
-  create-node-reads.Asked,
-  create-node-reads.Learnt,
-) (apply-ranges-at t) apply-ranges.Post apply-ranges-Inv-loop apply-ranges-μ-loop
+apply-ranges-child-requires : (t : ℕ) → apply-ranges-lts.Need-child-requires (apply-ranges-claims t) (apply-ranges-at t) apply-ranges.Post apply-ranges-Inv-loop apply-ranges-μ-loop
 apply-ranges-child-requires t c κs = (inside-still ((c .before .before .before .before .before .before .before .before .pre .1 .0)) ((c .before .before .before .before .before .before .before .before .pre .1 .1 .left)) ((c .before .before .loop .inv .stays .wide)), ((c .before .before .loop .inv .at) ((c .before .loop-test .taken))) .left-in)
 
-apply-ranges-child-requires-2 : (t : ℕ) → apply-ranges-lts.Need-child-requires-2 (
-  new-reads.Asked,
-  new-reads.Learnt,
-  child-reads.Asked,
-  child-reads.Learnt,
-  cut-reads.Asked,
-  cut-reads.Learnt,
-  conjoin-below t,
-  conjoin.Post,
-  slot-for-reads.Asked,
-  slot-for-reads.Learnt,
-  advance-reads.Asked,
-  advance-reads.Learnt,
-  create-node-reads.Asked,
-  create-node-reads.Learnt,
-) (apply-ranges-at t) apply-ranges.Post apply-ranges-Inv-loop apply-ranges-μ-loop
+apply-ranges-child-requires-2 : (t : ℕ) → apply-ranges-lts.Need-child-requires-2 (apply-ranges-claims t) (apply-ranges-at t) apply-ranges.Post apply-ranges-Inv-loop apply-ranges-μ-loop
 apply-ranges-child-requires-2 t c κs = (inside-still ((c .before .before .before .before .before .before .before .before .before .before .pre .1 .0)) ((c .before .before .before .before .before .before .before .before .before .before .pre .1 .1 .right)) ((c .before .before .before .before .loop .inv .stays .wide)), ((c .before .before .before .before .loop .inv .at) ((c .before .before .before .loop-test .taken))) .right-in)
 
-apply-ranges-cut-requires : (t : ℕ) → apply-ranges-lts.Need-cut-requires (
-  new-reads.Asked,
-  new-reads.Learnt,
-  child-reads.Asked,
-  child-reads.Learnt,
-  cut-reads.Asked,
-  cut-reads.Learnt,
-  conjoin-below t,
-  conjoin.Post,
-  slot-for-reads.Asked,
-  slot-for-reads.Learnt,
-  advance-reads.Asked,
-  advance-reads.Learnt,
-  create-node-reads.Asked,
-  create-node-reads.Learnt,
-) (apply-ranges-at t) apply-ranges.Post apply-ranges-Inv-loop apply-ranges-μ-loop
+apply-ranges-cut-requires : (t : ℕ) → apply-ranges-lts.Need-cut-requires (apply-ranges-claims t) (apply-ranges-at t) apply-ranges.Post apply-ranges-Inv-loop apply-ranges-μ-loop
 apply-ranges-cut-requires t c κs = (inside-still ((c .before .before .before .before .before .before .before .before .before .before .before .before .pre .1 .0)) ((c .before .before .before .before .before .before .before .before .before .before .before .before .pre .1 .1 .left)) ((c .before .before .before .before .before .before .loop .inv .ready .lent .allowed .cut-each) ∙ (c .before .before .before .before .before .before .loop .inv .stays .wide)), ((c .before .before .before .before .before .before .loop .inv .at) ((c .before .before .before .before .before .loop-test .taken))) .left-in)
 
-apply-ranges-cut-requires-2 : (t : ℕ) → apply-ranges-lts.Need-cut-requires-2 (
-  new-reads.Asked,
-  new-reads.Learnt,
-  child-reads.Asked,
-  child-reads.Learnt,
-  cut-reads.Asked,
-  cut-reads.Learnt,
-  conjoin-below t,
-  conjoin.Post,
-  slot-for-reads.Asked,
-  slot-for-reads.Learnt,
-  advance-reads.Asked,
-  advance-reads.Learnt,
-  create-node-reads.Asked,
-  create-node-reads.Learnt,
-) (apply-ranges-at t) apply-ranges.Post apply-ranges-Inv-loop apply-ranges-μ-loop
+apply-ranges-cut-requires-2 : (t : ℕ) → apply-ranges-lts.Need-cut-requires-2 (apply-ranges-claims t) (apply-ranges-at t) apply-ranges.Post apply-ranges-Inv-loop apply-ranges-μ-loop
 apply-ranges-cut-requires-2 t c κs = (inside-still ((c .before .before .before .before .before .before .before .before .before .before .before .before .before .before .pre .1 .0)) ((c .before .before .before .before .before .before .before .before .before .before .before .before .before .before .pre .1 .1 .right)) ((c .before .before .before .before .before .before .before .before .loop .inv .ready .lent .allowed .cut-each) ∙ (c .before .before .before .before .before .before .before .before .loop .inv .stays .wide)), ((c .before .before .before .before .before .before .before .before .loop .inv .at) ((c .before .before .before .before .before .before .before .loop-test .taken))) .right-in)
 
-apply-ranges-conjoin-requires : (t : ℕ) → apply-ranges-lts.Need-conjoin-requires (
-  new-reads.Asked,
-  new-reads.Learnt,
-  child-reads.Asked,
-  child-reads.Learnt,
-  cut-reads.Asked,
-  cut-reads.Learnt,
-  conjoin-below t,
-  conjoin.Post,
-  slot-for-reads.Asked,
-  slot-for-reads.Learnt,
-  advance-reads.Asked,
-  advance-reads.Learnt,
-  create-node-reads.Asked,
-  create-node-reads.Learnt,
-) (apply-ranges-at t) apply-ranges.Post apply-ranges-Inv-loop apply-ranges-μ-loop
+apply-ranges-conjoin-requires : (t : ℕ) → apply-ranges-lts.Need-conjoin-requires (apply-ranges-claims t) (apply-ranges-at t) apply-ranges.Post apply-ranges-Inv-loop apply-ranges-μ-loop
 apply-ranges-conjoin-requires t c κs = let asked = both-asked (conj-walk _ _) ((c .before .before .before .before .before .before .before .before .before .before .before .before .before .before .before .before .before .before .before .before .args .head)) ((c .before .before .before .before .before .before .before .before .before .before .before .before .before .before .before .before .before .before .before .before .args .nodes .now)) ((c .before .before .before .before .before .before .before .before .before .before .before .before .before .before .before .before .before .before .before .before .args .children .now)) ((c .before .before .before .before .before .before .before .before .before .before .before .before .before .before .before .before .before .before .before .before .args .cuts .now)) ((c .before .before .before .before .before .before .before .before .before .before .before .before .before .before .before .before .before .before .before .before .args .memo .now)) ((c .before .before .before .before .before .before .before .before .before .before .before .before .before .before .before .before .before .before .before .before .args .a)) ((c .before .before .before .before .before .before .before .before .before .before .before .before .before .before .before .before .before .before .before .before .args .b)) ((c .before .before .before .before .before .before .before .before .before .before .before .before .before .before .before .before .before .before .before .before .pre .1 .0)) ((c .before .before .before .before .before .before .before .before .before .before .before .before .before .before .before .before .before .before .before .before .pre .1 .1)) ((c .before .before .before .before .before .before .before .before .before .before .before .before .before .before .before .before .before .before .before .before .pre .1 .2)) ((c .before .before .before .before .before .before .before .before .before .before .before .before .before .before .loop .inv)) ((c .before .before .before .before .before .before .before .before .before .before .before .before .before .loop-test .taken)) ((c .before .before .before .before .before .before .before .before .before .before .before .child .ensures)) ((c .before .before .before .before .before .before .before .before .before .child2 .ensures)) in (omega (arith, (c .before .before .before .before .before .before .before .before .before .before .before .before .before .before .before .before .before .before .before .before .pre .0)), ((c .before .before .before .before .before .before .before .before .before .before .before .before .before .before .loop .inv .ready), asked .0, asked .1))
 
-apply-ranges-slot-for-requires : (t : ℕ) → apply-ranges-lts.Need-slot-for-requires (
-  new-reads.Asked,
-  new-reads.Learnt,
-  child-reads.Asked,
-  child-reads.Learnt,
-  cut-reads.Asked,
-  cut-reads.Learnt,
-  conjoin-below t,
-  conjoin.Post,
-  slot-for-reads.Asked,
-  slot-for-reads.Learnt,
-  advance-reads.Asked,
-  advance-reads.Learnt,
-  create-node-reads.Asked,
-  create-node-reads.Learnt,
-) (apply-ranges-at t) apply-ranges.Post apply-ranges-Inv-loop apply-ranges-μ-loop
-apply-ranges-slot-for-requires t c κs = search needs
-
-apply-ranges-advance-requires : (t : ℕ) → apply-ranges-lts.Need-advance-requires (
-  new-reads.Asked,
-  new-reads.Learnt,
-  child-reads.Asked,
-  child-reads.Learnt,
-  cut-reads.Asked,
-  cut-reads.Learnt,
-  conjoin-below t,
-  conjoin.Post,
-  slot-for-reads.Asked,
-  slot-for-reads.Learnt,
-  advance-reads.Asked,
-  advance-reads.Learnt,
-  create-node-reads.Asked,
-  create-node-reads.Learnt,
-) (apply-ranges-at t) apply-ranges.Post apply-ranges-Inv-loop apply-ranges-μ-loop
-apply-ranges-advance-requires t c κs = search needs
-
-apply-ranges-mul-t47 : (t : ℕ) → apply-ranges-lts.Need-mul-t47 (
-  new-reads.Asked,
-  new-reads.Learnt,
-  child-reads.Asked,
-  child-reads.Learnt,
-  cut-reads.Asked,
-  cut-reads.Learnt,
-  conjoin-below t,
-  conjoin.Post,
-  slot-for-reads.Asked,
-  slot-for-reads.Learnt,
-  advance-reads.Asked,
-  advance-reads.Learnt,
-  create-node-reads.Asked,
-  create-node-reads.Learnt,
-) (apply-ranges-at t) apply-ranges.Post apply-ranges-Inv-loop apply-ranges-μ-loop
+apply-ranges-mul-t47 : (t : ℕ) → apply-ranges-lts.Need-mul-t47 (apply-ranges-claims t) (apply-ranges-at t) apply-ranges.Post apply-ranges-Inv-loop apply-ranges-μ-loop
 apply-ranges-mul-t47 t c = omega (arith, slot-inside (conj-walk _ _) ((c .before .before .before .before .before .before .before .before .before .before .before .before .before .before .before .before .before .before .before .before .before .before .before .before .before .before .before .before .before .before .before .before .before .args .head)) ((c .before .before .before .before .before .before .before .before .before .before .before .before .before .before .before .before .before .before .before .before .before .before .before .before .before .before .before .before .before .before .before .before .before .args .nodes .now)) ((c .before .before .before .before .before .before .before .before .before .before .before .before .before .before .before .before .before .before .before .before .before .before .before .before .before .before .before .before .before .before .before .before .before .args .children .now)) ((c .before .before .before .before .before .before .before .before .before .before .before .before .before .before .before .before .before .before .before .before .before .before .before .before .before .before .before .before .before .before .before .before .before .args .cuts .now)) ((c .before .before .before .before .before .before .before .before .before .before .before .before .before .before .before .before .before .before .before .before .before .before .before .before .before .before .before .before .before .before .before .before .before .args .memo .now)) ((c .before .before .before .before .before .before .before .before .before .before .before .before .before .before .before .before .before .before .before .before .before .before .before .before .before .before .before .before .before .before .before .before .before .args .a)) ((c .before .before .before .before .before .before .before .before .before .before .before .before .before .before .before .before .before .before .before .before .before .before .before .before .before .before .before .before .before .before .before .before .before .args .b)) ((c .before .before .before .before .before .before .before .before .before .before .before .before .before .before .before .before .before .before .before .before .before .before .before .before .before .before .before .before .before .before .before .before .before .pre .1 .0)) ((c .before .before .before .before .before .before .before .before .before .before .before .before .before .before .before .before .before .before .before .before .before .before .before .before .before .before .before .before .before .before .before .before .before .pre .1 .1)) ((c .before .before .before .before .before .before .before .before .before .before .before .before .before .before .before .before .before .before .before .before .before .before .before .before .before .before .before .before .before .before .before .before .before .pre .1 .2)) ((c .before .before .before .before .before .before .before .before .before .before .before .before .before .before .before .before .before .before .before .before .before .before .before .before .before .before .before .loop .inv)) ((c .before .before .before .before .before .before .before .before .before .before .before .before .before .before .before .before .before .before .before .before .before .before .before .before .before .before .loop-test .taken)) ((c .before .before .before .before .before .before .before .before .before .before .before .before .before .before .before .before .before .before .before .before .before .before .before .before .child .ensures)) ((c .before .before .before .before .before .before .before .before .before .before .before .before .before .before .before .before .before .before .before .before .before .before .child2 .ensures)) ((c .before .before .before .before .before .before .before .before .before .before .before .before .before .before .before .before .before .before .before .before .cut .ensures)) ((c .before .before .before .before .before .before .before .before .before .before .before .before .before .before .before .before .before .before .cut2 .ensures)) ((c .before .before .before .before .before .before .before .before .before .before .before .before .conjoin .ensures)) ((c .before .slot-for .ensures)) ((c .advance .ensures)))
 
-apply-ranges-element-set-from-out : (t : ℕ) → apply-ranges-lts.Need-element-set-from-out (
-  new-reads.Asked,
-  new-reads.Learnt,
-  child-reads.Asked,
-  child-reads.Learnt,
-  cut-reads.Asked,
-  cut-reads.Learnt,
-  conjoin-below t,
-  conjoin.Post,
-  slot-for-reads.Asked,
-  slot-for-reads.Learnt,
-  advance-reads.Asked,
-  advance-reads.Learnt,
-  create-node-reads.Asked,
-  create-node-reads.Learnt,
-) (apply-ranges-at t) apply-ranges.Post apply-ranges-Inv-loop apply-ranges-μ-loop
+apply-ranges-element-set-from-out : (t : ℕ) → apply-ranges-lts.Need-element-set-from-out (apply-ranges-claims t) (apply-ranges-at t) apply-ranges.Post apply-ranges-Inv-loop apply-ranges-μ-loop
 apply-ranges-element-set-from-out t c = omega (arith, slot-inside (conj-walk _ _) ((c .before .before .before .before .before .before .before .before .before .before .before .before .before .before .before .before .before .before .before .before .before .before .before .before .before .before .before .before .before .before .before .before .before .args .head)) ((c .before .before .before .before .before .before .before .before .before .before .before .before .before .before .before .before .before .before .before .before .before .before .before .before .before .before .before .before .before .before .before .before .before .args .nodes .now)) ((c .before .before .before .before .before .before .before .before .before .before .before .before .before .before .before .before .before .before .before .before .before .before .before .before .before .before .before .before .before .before .before .before .before .args .children .now)) ((c .before .before .before .before .before .before .before .before .before .before .before .before .before .before .before .before .before .before .before .before .before .before .before .before .before .before .before .before .before .before .before .before .before .args .cuts .now)) ((c .before .before .before .before .before .before .before .before .before .before .before .before .before .before .before .before .before .before .before .before .before .before .before .before .before .before .before .before .before .before .before .before .before .args .memo .now)) ((c .before .before .before .before .before .before .before .before .before .before .before .before .before .before .before .before .before .before .before .before .before .before .before .before .before .before .before .before .before .before .before .before .before .args .a)) ((c .before .before .before .before .before .before .before .before .before .before .before .before .before .before .before .before .before .before .before .before .before .before .before .before .before .before .before .before .before .before .before .before .before .args .b)) ((c .before .before .before .before .before .before .before .before .before .before .before .before .before .before .before .before .before .before .before .before .before .before .before .before .before .before .before .before .before .before .before .before .before .pre .1 .0)) ((c .before .before .before .before .before .before .before .before .before .before .before .before .before .before .before .before .before .before .before .before .before .before .before .before .before .before .before .before .before .before .before .before .before .pre .1 .1)) ((c .before .before .before .before .before .before .before .before .before .before .before .before .before .before .before .before .before .before .before .before .before .before .before .before .before .before .before .before .before .before .before .before .before .pre .1 .2)) ((c .before .before .before .before .before .before .before .before .before .before .before .before .before .before .before .before .before .before .before .before .before .before .before .before .before .before .before .loop .inv)) ((c .before .before .before .before .before .before .before .before .before .before .before .before .before .before .before .before .before .before .before .before .before .before .before .before .before .before .loop-test .taken)) ((c .before .before .before .before .before .before .before .before .before .before .before .before .before .before .before .before .before .before .before .before .before .before .before .before .child .ensures)) ((c .before .before .before .before .before .before .before .before .before .before .before .before .before .before .before .before .before .before .before .before .before .before .child2 .ensures)) ((c .before .before .before .before .before .before .before .before .before .before .before .before .before .before .before .before .before .before .before .before .cut .ensures)) ((c .before .before .before .before .before .before .before .before .before .before .before .before .before .before .before .before .before .before .cut2 .ensures)) ((c .before .before .before .before .before .before .before .before .before .before .before .before .conjoin .ensures)) ((c .before .slot-for .ensures)) ((c .advance .ensures)), (c .before .before .before .before .before .before .before .before .before .before .before .before .before .before .before .before .before .before .before .before .before .before .before .before .before .before .before .loop .inv .size))
 
-apply-ranges-add-len : (t : ℕ) → apply-ranges-lts.Need-add-len (
-  new-reads.Asked,
-  new-reads.Learnt,
-  child-reads.Asked,
-  child-reads.Learnt,
-  cut-reads.Asked,
-  cut-reads.Learnt,
-  conjoin-below t,
-  conjoin.Post,
-  slot-for-reads.Asked,
-  slot-for-reads.Learnt,
-  advance-reads.Asked,
-  advance-reads.Learnt,
-  create-node-reads.Asked,
-  create-node-reads.Learnt,
-) (apply-ranges-at t) apply-ranges.Post apply-ranges-Inv-loop apply-ranges-μ-loop
+apply-ranges-add-len : (t : ℕ) → apply-ranges-lts.Need-add-len (apply-ranges-claims t) (apply-ranges-at t) apply-ranges.Post apply-ranges-Inv-loop apply-ranges-μ-loop
 apply-ranges-add-len t c = omega (arith, slot-inside (conj-walk _ _) ((c .before .before .before .before .before .before .before .before .before .before .before .before .before .before .before .before .before .before .before .before .before .before .before .before .before .before .before .before .before .before .before .before .before .before .args .head)) ((c .before .before .before .before .before .before .before .before .before .before .before .before .before .before .before .before .before .before .before .before .before .before .before .before .before .before .before .before .before .before .before .before .before .before .args .nodes .now)) ((c .before .before .before .before .before .before .before .before .before .before .before .before .before .before .before .before .before .before .before .before .before .before .before .before .before .before .before .before .before .before .before .before .before .before .args .children .now)) ((c .before .before .before .before .before .before .before .before .before .before .before .before .before .before .before .before .before .before .before .before .before .before .before .before .before .before .before .before .before .before .before .before .before .before .args .cuts .now)) ((c .before .before .before .before .before .before .before .before .before .before .before .before .before .before .before .before .before .before .before .before .before .before .before .before .before .before .before .before .before .before .before .before .before .before .args .memo .now)) ((c .before .before .before .before .before .before .before .before .before .before .before .before .before .before .before .before .before .before .before .before .before .before .before .before .before .before .before .before .before .before .before .before .before .before .args .a)) ((c .before .before .before .before .before .before .before .before .before .before .before .before .before .before .before .before .before .before .before .before .before .before .before .before .before .before .before .before .before .before .before .before .before .before .args .b)) ((c .before .before .before .before .before .before .before .before .before .before .before .before .before .before .before .before .before .before .before .before .before .before .before .before .before .before .before .before .before .before .before .before .before .before .pre .1 .0)) ((c .before .before .before .before .before .before .before .before .before .before .before .before .before .before .before .before .before .before .before .before .before .before .before .before .before .before .before .before .before .before .before .before .before .before .pre .1 .1)) ((c .before .before .before .before .before .before .before .before .before .before .before .before .before .before .before .before .before .before .before .before .before .before .before .before .before .before .before .before .before .before .before .before .before .before .pre .1 .2)) ((c .before .before .before .before .before .before .before .before .before .before .before .before .before .before .before .before .before .before .before .before .before .before .before .before .before .before .before .before .loop .inv)) ((c .before .before .before .before .before .before .before .before .before .before .before .before .before .before .before .before .before .before .before .before .before .before .before .before .before .before .before .loop-test .taken)) ((c .before .before .before .before .before .before .before .before .before .before .before .before .before .before .before .before .before .before .before .before .before .before .before .before .before .child .ensures)) ((c .before .before .before .before .before .before .before .before .before .before .before .before .before .before .before .before .before .before .before .before .before .before .before .child2 .ensures)) ((c .before .before .before .before .before .before .before .before .before .before .before .before .before .before .before .before .before .before .before .before .before .cut .ensures)) ((c .before .before .before .before .before .before .before .before .before .before .before .before .before .before .before .before .before .before .before .cut2 .ensures)) ((c .before .before .before .before .before .before .before .before .before .before .before .before .before .conjoin .ensures)) ((c .before .before .slot-for .ensures)) ((c .before .advance .ensures)))
 
-apply-ranges-add-i : (t : ℕ) → apply-ranges-lts.Need-add-i (
-  new-reads.Asked,
-  new-reads.Learnt,
-  child-reads.Asked,
-  child-reads.Learnt,
-  cut-reads.Asked,
-  cut-reads.Learnt,
-  conjoin-below t,
-  conjoin.Post,
-  slot-for-reads.Asked,
-  slot-for-reads.Learnt,
-  advance-reads.Asked,
-  advance-reads.Learnt,
-  create-node-reads.Asked,
-  create-node-reads.Learnt,
-) (apply-ranges-at t) apply-ranges.Post apply-ranges-Inv-loop apply-ranges-μ-loop
+apply-ranges-add-i : (t : ℕ) → apply-ranges-lts.Need-add-i (apply-ranges-claims t) (apply-ranges-at t) apply-ranges.Post apply-ranges-Inv-loop apply-ranges-μ-loop
 apply-ranges-add-i t c = omega (arith, sides-small (conj-walk _ _) ((c .before .before .before .before .before .before .before .before .before .before .before .before .before .before .before .before .before .before .before .before .before .before .before .before .before .before .before .before .before .before .before .before .before .before .before .args .head)) ((c .before .before .before .before .before .before .before .before .before .before .before .before .before .before .before .before .before .before .before .before .before .before .before .before .before .before .before .before .before .before .before .before .before .before .before .args .nodes .now)) ((c .before .before .before .before .before .before .before .before .before .before .before .before .before .before .before .before .before .before .before .before .before .before .before .before .before .before .before .before .before .before .before .before .before .before .before .args .children .now)) ((c .before .before .before .before .before .before .before .before .before .before .before .before .before .before .before .before .before .before .before .before .before .before .before .before .before .before .before .before .before .before .before .before .before .before .before .args .cuts .now)) ((c .before .before .before .before .before .before .before .before .before .before .before .before .before .before .before .before .before .before .before .before .before .before .before .before .before .before .before .before .before .before .before .before .before .before .before .args .memo .now)) ((c .before .before .before .before .before .before .before .before .before .before .before .before .before .before .before .before .before .before .before .before .before .before .before .before .before .before .before .before .before .before .before .before .before .before .before .args .a)) ((c .before .before .before .before .before .before .before .before .before .before .before .before .before .before .before .before .before .before .before .before .before .before .before .before .before .before .before .before .before .before .before .before .before .before .before .args .b)) ((c .before .before .before .before .before .before .before .before .before .before .before .before .before .before .before .before .before .before .before .before .before .before .before .before .before .before .before .before .before .before .before .before .before .before .before .pre .1 .0)) ((c .before .before .before .before .before .before .before .before .before .before .before .before .before .before .before .before .before .before .before .before .before .before .before .before .before .before .before .before .before .before .before .before .before .before .before .pre .1 .1)) ((c .before .before .before .before .before .before .before .before .before .before .before .before .before .before .before .before .before .before .before .before .before .before .before .before .before .before .before .before .before .before .before .before .before .before .before .pre .1 .2)) ((c .before .before .before .before .before .before .before .before .before .before .before .before .before .before .before .before .before .before .before .before .before .before .before .before .before .before .before .before .before .loop .inv)) ((c .before .before .before .before .before .before .before .before .before .before .before .before .before .before .before .before .before .before .before .before .before .before .before .before .before .before .before .before .loop-test .taken)) ((c .before .before .before .before .before .before .before .before .before .before .before .before .before .before .before .before .before .before .before .before .before .before .before .before .before .before .child .ensures)) ((c .before .before .before .before .before .before .before .before .before .before .before .before .before .before .before .before .before .before .before .before .before .before .before .before .child2 .ensures)) ((c .before .before .before .before .before .before .before .before .before .before .before .before .before .before .before .before .before .before .before .before .before .before .cut .ensures)) ((c .before .before .before .before .before .before .before .before .before .before .before .before .before .before .before .before .before .before .before .before .cut2 .ensures)) ((c .before .before .before .before .before .before .before .before .before .before .before .before .before .before .conjoin .ensures)) ((c .before .before .before .slot-for .ensures)) ((c .before .before .advance .ensures)))
 
-apply-ranges-add-j : (t : ℕ) → apply-ranges-lts.Need-add-j (
-  new-reads.Asked,
-  new-reads.Learnt,
-  child-reads.Asked,
-  child-reads.Learnt,
-  cut-reads.Asked,
-  cut-reads.Learnt,
-  conjoin-below t,
-  conjoin.Post,
-  slot-for-reads.Asked,
-  slot-for-reads.Learnt,
-  advance-reads.Asked,
-  advance-reads.Learnt,
-  create-node-reads.Asked,
-  create-node-reads.Learnt,
-) (apply-ranges-at t) apply-ranges.Post apply-ranges-Inv-loop apply-ranges-μ-loop
+apply-ranges-add-j : (t : ℕ) → apply-ranges-lts.Need-add-j (apply-ranges-claims t) (apply-ranges-at t) apply-ranges.Post apply-ranges-Inv-loop apply-ranges-μ-loop
 apply-ranges-add-j t c = omega (arith, sides-small (conj-walk _ _) ((c .before .before .before .before .before .before .before .before .before .before .before .before .before .before .before .before .before .before .before .before .before .before .before .before .before .before .before .before .before .before .before .before .before .before .before .before .args .head)) ((c .before .before .before .before .before .before .before .before .before .before .before .before .before .before .before .before .before .before .before .before .before .before .before .before .before .before .before .before .before .before .before .before .before .before .before .before .args .nodes .now)) ((c .before .before .before .before .before .before .before .before .before .before .before .before .before .before .before .before .before .before .before .before .before .before .before .before .before .before .before .before .before .before .before .before .before .before .before .before .args .children .now)) ((c .before .before .before .before .before .before .before .before .before .before .before .before .before .before .before .before .before .before .before .before .before .before .before .before .before .before .before .before .before .before .before .before .before .before .before .before .args .cuts .now)) ((c .before .before .before .before .before .before .before .before .before .before .before .before .before .before .before .before .before .before .before .before .before .before .before .before .before .before .before .before .before .before .before .before .before .before .before .before .args .memo .now)) ((c .before .before .before .before .before .before .before .before .before .before .before .before .before .before .before .before .before .before .before .before .before .before .before .before .before .before .before .before .before .before .before .before .before .before .before .before .args .a)) ((c .before .before .before .before .before .before .before .before .before .before .before .before .before .before .before .before .before .before .before .before .before .before .before .before .before .before .before .before .before .before .before .before .before .before .before .before .args .b)) ((c .before .before .before .before .before .before .before .before .before .before .before .before .before .before .before .before .before .before .before .before .before .before .before .before .before .before .before .before .before .before .before .before .before .before .before .before .pre .1 .0)) ((c .before .before .before .before .before .before .before .before .before .before .before .before .before .before .before .before .before .before .before .before .before .before .before .before .before .before .before .before .before .before .before .before .before .before .before .before .pre .1 .1)) ((c .before .before .before .before .before .before .before .before .before .before .before .before .before .before .before .before .before .before .before .before .before .before .before .before .before .before .before .before .before .before .before .before .before .before .before .before .pre .1 .2)) ((c .before .before .before .before .before .before .before .before .before .before .before .before .before .before .before .before .before .before .before .before .before .before .before .before .before .before .before .before .before .before .loop .inv)) ((c .before .before .before .before .before .before .before .before .before .before .before .before .before .before .before .before .before .before .before .before .before .before .before .before .before .before .before .before .before .loop-test .taken)) ((c .before .before .before .before .before .before .before .before .before .before .before .before .before .before .before .before .before .before .before .before .before .before .before .before .before .before .before .child .ensures)) ((c .before .before .before .before .before .before .before .before .before .before .before .before .before .before .before .before .before .before .before .before .before .before .before .before .before .child2 .ensures)) ((c .before .before .before .before .before .before .before .before .before .before .before .before .before .before .before .before .before .before .before .before .before .before .before .cut .ensures)) ((c .before .before .before .before .before .before .before .before .before .before .before .before .before .before .before .before .before .before .before .before .before .cut2 .ensures)) ((c .before .before .before .before .before .before .before .before .before .before .before .before .before .before .before .conjoin .ensures)) ((c .before .before .before .before .slot-for .ensures)) ((c .before .before .before .advance .ensures)))
 
-apply-ranges-loop-less : (t : ℕ) → apply-ranges-lts.Need-loop-less (
-  new-reads.Asked,
-  new-reads.Learnt,
-  child-reads.Asked,
-  child-reads.Learnt,
-  cut-reads.Asked,
-  cut-reads.Learnt,
-  conjoin-below t,
-  conjoin.Post,
-  slot-for-reads.Asked,
-  slot-for-reads.Learnt,
-  advance-reads.Asked,
-  advance-reads.Learnt,
-  create-node-reads.Asked,
-  create-node-reads.Learnt,
-) (apply-ranges-at t) apply-ranges.Post apply-ranges-Inv-loop apply-ranges-μ-loop
+apply-ranges-loop-less : (t : ℕ) → apply-ranges-lts.Need-loop-less (apply-ranges-claims t) (apply-ranges-at t) apply-ranges.Post apply-ranges-Inv-loop apply-ranges-μ-loop
 apply-ranges-loop-less t c = loop-falls (conj-walk _ _) ((c .before .before .before .before .before .before .before .before .before .before .before .before .before .before .before .before .before .before .before .before .before .before .before .before .before .before .before .before .before .before .before .before .before .before .before .before .args .head)) ((c .before .before .before .before .before .before .before .before .before .before .before .before .before .before .before .before .before .before .before .before .before .before .before .before .before .before .before .before .before .before .before .before .before .before .before .before .args .nodes .now)) ((c .before .before .before .before .before .before .before .before .before .before .before .before .before .before .before .before .before .before .before .before .before .before .before .before .before .before .before .before .before .before .before .before .before .before .before .before .args .children .now)) ((c .before .before .before .before .before .before .before .before .before .before .before .before .before .before .before .before .before .before .before .before .before .before .before .before .before .before .before .before .before .before .before .before .before .before .before .before .args .cuts .now)) ((c .before .before .before .before .before .before .before .before .before .before .before .before .before .before .before .before .before .before .before .before .before .before .before .before .before .before .before .before .before .before .before .before .before .before .before .before .args .memo .now)) ((c .before .before .before .before .before .before .before .before .before .before .before .before .before .before .before .before .before .before .before .before .before .before .before .before .before .before .before .before .before .before .before .before .before .before .before .before .args .a)) ((c .before .before .before .before .before .before .before .before .before .before .before .before .before .before .before .before .before .before .before .before .before .before .before .before .before .before .before .before .before .before .before .before .before .before .before .before .args .b)) ((c .before .before .before .before .before .before .before .before .before .before .before .before .before .before .before .before .before .before .before .before .before .before .before .before .before .before .before .before .before .before .before .before .before .before .before .before .pre .1 .0)) ((c .before .before .before .before .before .before .before .before .before .before .before .before .before .before .before .before .before .before .before .before .before .before .before .before .before .before .before .before .before .before .before .before .before .before .before .before .pre .1 .1)) ((c .before .before .before .before .before .before .before .before .before .before .before .before .before .before .before .before .before .before .before .before .before .before .before .before .before .before .before .before .before .before .before .before .before .before .before .before .pre .1 .2)) ((c .before .before .before .before .before .before .before .before .before .before .before .before .before .before .before .before .before .before .before .before .before .before .before .before .before .before .before .before .before .before .loop .inv)) ((c .before .before .before .before .before .before .before .before .before .before .before .before .before .before .before .before .before .before .before .before .before .before .before .before .before .before .before .before .before .loop-test .taken)) ((c .before .before .before .before .before .before .before .before .before .before .before .before .before .before .before .before .before .before .before .before .before .before .before .before .before .before .before .child .ensures)) ((c .before .before .before .before .before .before .before .before .before .before .before .before .before .before .before .before .before .before .before .before .before .before .before .before .before .child2 .ensures)) ((c .before .before .before .before .before .before .before .before .before .before .before .before .before .before .before .before .before .before .before .before .before .before .before .cut .ensures)) ((c .before .before .before .before .before .before .before .before .before .before .before .before .before .before .before .before .before .before .before .before .before .cut2 .ensures)) ((c .before .before .before .before .before .before .before .before .before .before .before .before .before .before .before .conjoin .ensures)) ((c .before .before .before .before .slot-for .ensures)) ((c .before .before .before .advance .ensures))
 
-apply-ranges-loop-again : (t : ℕ) → apply-ranges-lts.Need-loop-again (
-  new-reads.Asked,
-  new-reads.Learnt,
-  child-reads.Asked,
-  child-reads.Learnt,
-  cut-reads.Asked,
-  cut-reads.Learnt,
-  conjoin-below t,
-  conjoin.Post,
-  slot-for-reads.Asked,
-  slot-for-reads.Learnt,
-  advance-reads.Asked,
-  advance-reads.Learnt,
-  create-node-reads.Asked,
-  create-node-reads.Learnt,
-) (apply-ranges-at t) apply-ranges.Post apply-ranges-Inv-loop apply-ranges-μ-loop
+apply-ranges-loop-again : (t : ℕ) → apply-ranges-lts.Need-loop-again (apply-ranges-claims t) (apply-ranges-at t) apply-ranges.Post apply-ranges-Inv-loop apply-ranges-μ-loop
 apply-ranges-loop-again t c = loop-step (conj-walk _ _) ((c .before .before .before .before .before .before .before .before .before .before .before .before .before .before .before .before .before .before .before .before .before .before .before .before .before .before .before .before .before .before .before .before .before .before .before .before .args .head)) ((c .before .before .before .before .before .before .before .before .before .before .before .before .before .before .before .before .before .before .before .before .before .before .before .before .before .before .before .before .before .before .before .before .before .before .before .before .args .nodes .now)) ((c .before .before .before .before .before .before .before .before .before .before .before .before .before .before .before .before .before .before .before .before .before .before .before .before .before .before .before .before .before .before .before .before .before .before .before .before .args .children .now)) ((c .before .before .before .before .before .before .before .before .before .before .before .before .before .before .before .before .before .before .before .before .before .before .before .before .before .before .before .before .before .before .before .before .before .before .before .before .args .cuts .now)) ((c .before .before .before .before .before .before .before .before .before .before .before .before .before .before .before .before .before .before .before .before .before .before .before .before .before .before .before .before .before .before .before .before .before .before .before .before .args .memo .now)) ((c .before .before .before .before .before .before .before .before .before .before .before .before .before .before .before .before .before .before .before .before .before .before .before .before .before .before .before .before .before .before .before .before .before .before .before .before .args .a)) ((c .before .before .before .before .before .before .before .before .before .before .before .before .before .before .before .before .before .before .before .before .before .before .before .before .before .before .before .before .before .before .before .before .before .before .before .before .args .b)) ((c .before .before .before .before .before .before .before .before .before .before .before .before .before .before .before .before .before .before .before .before .before .before .before .before .before .before .before .before .before .before .before .before .before .before .before .before .pre .1 .0)) ((c .before .before .before .before .before .before .before .before .before .before .before .before .before .before .before .before .before .before .before .before .before .before .before .before .before .before .before .before .before .before .before .before .before .before .before .before .pre .1 .1)) ((c .before .before .before .before .before .before .before .before .before .before .before .before .before .before .before .before .before .before .before .before .before .before .before .before .before .before .before .before .before .before .before .before .before .before .before .before .pre .1 .2)) ((c .before .before .before .before .before .before .before .before .before .before .before .before .before .before .before .before .before .before .before .before .before .before .before .before .before .before .before .before .before .before .loop .inv)) ((c .before .before .before .before .before .before .before .before .before .before .before .before .before .before .before .before .before .before .before .before .before .before .before .before .before .before .before .before .before .loop-test .taken)) ((c .before .before .before .before .before .before .before .before .before .before .before .before .before .before .before .before .before .before .before .before .before .before .before .before .before .before .before .child .ensures)) ((c .before .before .before .before .before .before .before .before .before .before .before .before .before .before .before .before .before .before .before .before .before .before .before .before .before .child2 .ensures)) ((c .before .before .before .before .before .before .before .before .before .before .before .before .before .before .before .before .before .before .before .before .before .before .before .cut .ensures)) ((c .before .before .before .before .before .before .before .before .before .before .before .before .before .before .before .before .before .before .before .before .before .cut2 .ensures)) ((c .before .before .before .before .before .before .before .before .before .before .before .before .before .before .before .conjoin .ensures)) ((c .before .before .before .before .slot-for .ensures)) ((c .before .before .before .advance .ensures))
 
-apply-ranges-same-length : (t : ℕ) → apply-ranges-lts.Need-same-length (
-  new-reads.Asked,
-  new-reads.Learnt,
-  child-reads.Asked,
-  child-reads.Learnt,
-  cut-reads.Asked,
-  cut-reads.Learnt,
-  conjoin-below t,
-  conjoin.Post,
-  slot-for-reads.Asked,
-  slot-for-reads.Learnt,
-  advance-reads.Asked,
-  advance-reads.Learnt,
-  create-node-reads.Asked,
-  create-node-reads.Learnt,
-) (apply-ranges-at t) apply-ranges.Post apply-ranges-Inv-loop apply-ranges-μ-loop
+apply-ranges-same-length : (t : ℕ) → apply-ranges-lts.Need-same-length (apply-ranges-claims t) (apply-ranges-at t) apply-ranges.Post apply-ranges-Inv-loop apply-ranges-μ-loop
 apply-ranges-same-length t c = (c .before .before .loop .inv .stays .long)
 
-apply-ranges-same-length-2 : (t : ℕ) → apply-ranges-lts.Need-same-length-2 (
-  new-reads.Asked,
-  new-reads.Learnt,
-  child-reads.Asked,
-  child-reads.Learnt,
-  cut-reads.Asked,
-  cut-reads.Learnt,
-  conjoin-below t,
-  conjoin.Post,
-  slot-for-reads.Asked,
-  slot-for-reads.Learnt,
-  advance-reads.Asked,
-  advance-reads.Learnt,
-  create-node-reads.Asked,
-  create-node-reads.Learnt,
-) (apply-ranges-at t) apply-ranges.Post apply-ranges-Inv-loop apply-ranges-μ-loop
+apply-ranges-same-length-2 : (t : ℕ) → apply-ranges-lts.Need-same-length-2 (apply-ranges-claims t) (apply-ranges-at t) apply-ranges.Post apply-ranges-Inv-loop apply-ranges-μ-loop
 apply-ranges-same-length-2 t c = (c .before .before .loop .inv .stays .wide)
 
-apply-ranges-same-length-3 : (t : ℕ) → apply-ranges-lts.Need-same-length-3 (
-  new-reads.Asked,
-  new-reads.Learnt,
-  child-reads.Asked,
-  child-reads.Learnt,
-  cut-reads.Asked,
-  cut-reads.Learnt,
-  conjoin-below t,
-  conjoin.Post,
-  slot-for-reads.Asked,
-  slot-for-reads.Learnt,
-  advance-reads.Asked,
-  advance-reads.Learnt,
-  create-node-reads.Asked,
-  create-node-reads.Learnt,
-) (apply-ranges-at t) apply-ranges.Post apply-ranges-Inv-loop apply-ranges-μ-loop
+apply-ranges-same-length-3 : (t : ℕ) → apply-ranges-lts.Need-same-length-3 (apply-ranges-claims t) (apply-ranges-at t) apply-ranges.Post apply-ranges-Inv-loop apply-ranges-μ-loop
 apply-ranges-same-length-3 t c = cuts-long ((c .before .before .before .before .before .before .before .before .pre .1 .0)) (so-far (conj-walk _ _) ((c .before .before .before .before .before .before .before .before .args .head)) ((c .before .before .before .before .before .before .before .before .args .nodes .now)) ((c .before .before .before .before .before .before .before .before .args .children .now)) ((c .before .before .before .before .before .before .before .before .args .cuts .now)) ((c .before .before .before .before .before .before .before .before .args .memo .now)) ((c .before .before .before .before .before .before .before .before .args .a)) ((c .before .before .before .before .before .before .before .before .args .b)) ((c .before .before .before .before .before .before .before .before .pre .1 .0)) ((c .before .before .before .before .before .before .before .before .pre .1 .1)) ((c .before .before .before .before .before .before .before .before .pre .1 .2)) ((c .before .before .loop .inv)))
 
-apply-ranges-same-length-4 : (t : ℕ) → apply-ranges-lts.Need-same-length-4 (
-  new-reads.Asked,
-  new-reads.Learnt,
-  child-reads.Asked,
-  child-reads.Learnt,
-  cut-reads.Asked,
-  cut-reads.Learnt,
-  conjoin-below t,
-  conjoin.Post,
-  slot-for-reads.Asked,
-  slot-for-reads.Learnt,
-  advance-reads.Asked,
-  advance-reads.Learnt,
-  create-node-reads.Asked,
-  create-node-reads.Learnt,
-) (apply-ranges-at t) apply-ranges.Post apply-ranges-Inv-loop apply-ranges-μ-loop
+apply-ranges-same-length-4 : (t : ℕ) → apply-ranges-lts.Need-same-length-4 (apply-ranges-claims t) (apply-ranges-at t) apply-ranges.Post apply-ranges-Inv-loop apply-ranges-μ-loop
 apply-ranges-same-length-4 t c = index-long ((c .before .before .before .before .before .before .before .before .pre .1 .0)) (so-far (conj-walk _ _) ((c .before .before .before .before .before .before .before .before .args .head)) ((c .before .before .before .before .before .before .before .before .args .nodes .now)) ((c .before .before .before .before .before .before .before .before .args .children .now)) ((c .before .before .before .before .before .before .before .before .args .cuts .now)) ((c .before .before .before .before .before .before .before .before .args .memo .now)) ((c .before .before .before .before .before .before .before .before .args .a)) ((c .before .before .before .before .before .before .before .before .args .b)) ((c .before .before .before .before .before .before .before .before .pre .1 .0)) ((c .before .before .before .before .before .before .before .before .pre .1 .1)) ((c .before .before .before .before .before .before .before .before .pre .1 .2)) ((c .before .before .loop .inv)))
 
-apply-ranges-same-length-5 : (t : ℕ) → apply-ranges-lts.Need-same-length-5 (
-  new-reads.Asked,
-  new-reads.Learnt,
-  child-reads.Asked,
-  child-reads.Learnt,
-  cut-reads.Asked,
-  cut-reads.Learnt,
-  conjoin-below t,
-  conjoin.Post,
-  slot-for-reads.Asked,
-  slot-for-reads.Learnt,
-  advance-reads.Asked,
-  advance-reads.Learnt,
-  create-node-reads.Asked,
-  create-node-reads.Learnt,
-) (apply-ranges-at t) apply-ranges.Post apply-ranges-Inv-loop apply-ranges-μ-loop
+apply-ranges-same-length-5 : (t : ℕ) → apply-ranges-lts.Need-same-length-5 (apply-ranges-claims t) (apply-ranges-at t) apply-ranges.Post apply-ranges-Inv-loop apply-ranges-μ-loop
 apply-ranges-same-length-5 t c = (c .before .before .loop .inv .long)
 
-apply-ranges-returns : (t : ℕ) → apply-ranges-lts.Need-returns (
-  new-reads.Asked,
-  new-reads.Learnt,
-  child-reads.Asked,
-  child-reads.Learnt,
-  cut-reads.Asked,
-  cut-reads.Learnt,
-  conjoin-below t,
-  conjoin.Post,
-  slot-for-reads.Asked,
-  slot-for-reads.Learnt,
-  advance-reads.Asked,
-  advance-reads.Learnt,
-  create-node-reads.Asked,
-  create-node-reads.Learnt,
-) (apply-ranges-at t) apply-ranges.Post apply-ranges-Inv-loop apply-ranges-μ-loop
+apply-ranges-returns : (t : ℕ) → apply-ranges-lts.Need-returns (apply-ranges-claims t) (apply-ranges-at t) apply-ranges.Post apply-ranges-Inv-loop apply-ranges-μ-loop
 apply-ranges-returns t c = merged-no (conj-walk _ _) ((c .before .before .before .before .before .before .before .before .args .head)) ((c .before .before .before .before .before .before .before .before .args .nodes .now)) ((c .before .before .before .before .before .before .before .before .args .children .now)) ((c .before .before .before .before .before .before .before .before .args .cuts .now)) ((c .before .before .before .before .before .before .before .before .args .memo .now)) ((c .before .before .before .before .before .before .before .before .args .a)) ((c .before .before .before .before .before .before .before .before .args .b)) ((c .before .before .before .before .before .before .before .before .pre .1 .0)) ((c .before .before .before .before .before .before .before .before .pre .1 .1)) ((c .before .before .before .before .before .before .before .before .pre .1 .2)) ((c .before .before .loop .inv)) ((c .before .loop-test .left)) (not-true _ ((c .if1 .taken))) _
 
-apply-ranges-create-node-requires : (t : ℕ) → apply-ranges-lts.Need-create-node-requires (
-  new-reads.Asked,
-  new-reads.Learnt,
-  child-reads.Asked,
-  child-reads.Learnt,
-  cut-reads.Asked,
-  cut-reads.Learnt,
-  conjoin-below t,
-  conjoin.Post,
-  slot-for-reads.Asked,
-  slot-for-reads.Learnt,
-  advance-reads.Asked,
-  advance-reads.Learnt,
-  create-node-reads.Asked,
-  create-node-reads.Learnt,
-) (apply-ranges-at t) apply-ranges.Post apply-ranges-Inv-loop apply-ranges-μ-loop
+apply-ranges-create-node-requires : (t : ℕ) → apply-ranges-lts.Need-create-node-requires (apply-ranges-claims t) (apply-ranges-at t) apply-ranges.Post apply-ranges-Inv-loop apply-ranges-μ-loop
 apply-ranges-create-node-requires t c κs = ((c .before .before .before .before .before .before .loop .inv .ready .lent), can-close (conj-walk _ _) ((c .before .before .before .before .before .before .before .before .before .before .before .before .args .head)) ((c .before .before .before .before .before .before .before .before .before .before .before .before .args .nodes .now)) ((c .before .before .before .before .before .before .before .before .before .before .before .before .args .children .now)) ((c .before .before .before .before .before .before .before .before .before .before .before .before .args .cuts .now)) ((c .before .before .before .before .before .before .before .before .before .before .before .before .args .memo .now)) ((c .before .before .before .before .before .before .before .before .before .before .before .before .args .a)) ((c .before .before .before .before .before .before .before .before .before .before .before .before .args .b)) ((c .before .before .before .before .before .before .before .before .before .before .before .before .pre .1 .0)) ((c .before .before .before .before .before .before .before .before .before .before .before .before .pre .1 .1)) ((c .before .before .before .before .before .before .before .before .before .before .before .before .pre .1 .2)) ((c .before .before .before .before .before .before .loop .inv)) ((c .before .before .before .before .before .loop-test .left)) (not-false _ ((c .before .before .before .before .if1 .left))))
 
-apply-ranges-same-length-6 : (t : ℕ) → apply-ranges-lts.Need-same-length-6 (
-  new-reads.Asked,
-  new-reads.Learnt,
-  child-reads.Asked,
-  child-reads.Learnt,
-  cut-reads.Asked,
-  cut-reads.Learnt,
-  conjoin-below t,
-  conjoin.Post,
-  slot-for-reads.Asked,
-  slot-for-reads.Learnt,
-  advance-reads.Asked,
-  advance-reads.Learnt,
-  create-node-reads.Asked,
-  create-node-reads.Learnt,
-) (apply-ranges-at t) apply-ranges.Post apply-ranges-Inv-loop apply-ranges-μ-loop
+apply-ranges-same-length-6 : (t : ℕ) → apply-ranges-lts.Need-same-length-6 (apply-ranges-claims t) (apply-ranges-at t) apply-ranges.Post apply-ranges-Inv-loop apply-ranges-μ-loop
 apply-ranges-same-length-6 t c = (then-made ((c .before .before .before .before .before .before .before .before .before .before .before .before .before .before .before .before .before .before .before .before .pre .1 .0)) (so-far (conj-walk _ _) ((c .before .before .before .before .before .before .before .before .before .before .before .before .before .before .before .before .before .before .before .before .args .head)) ((c .before .before .before .before .before .before .before .before .before .before .before .before .before .before .before .before .before .before .before .before .args .nodes .now)) ((c .before .before .before .before .before .before .before .before .before .before .before .before .before .before .before .before .before .before .before .before .args .children .now)) ((c .before .before .before .before .before .before .before .before .before .before .before .before .before .before .before .before .before .before .before .before .args .cuts .now)) ((c .before .before .before .before .before .before .before .before .before .before .before .before .before .before .before .before .before .before .before .before .args .memo .now)) ((c .before .before .before .before .before .before .before .before .before .before .before .before .before .before .before .before .before .before .before .before .args .a)) ((c .before .before .before .before .before .before .before .before .before .before .before .before .before .before .before .before .before .before .before .before .args .b)) ((c .before .before .before .before .before .before .before .before .before .before .before .before .before .before .before .before .before .before .before .before .pre .1 .0)) ((c .before .before .before .before .before .before .before .before .before .before .before .before .before .before .before .before .before .before .before .before .pre .1 .1)) ((c .before .before .before .before .before .before .before .before .before .before .before .before .before .before .before .before .before .before .before .before .pre .1 .2)) ((c .before .before .before .before .before .before .before .before .before .before .before .before .before .before .loop .inv))) entry-grown ((c .before .before .before .before .before .before .before .create-node .ensures .0))) .outcome .stays .long
 
-apply-ranges-same-length-7 : (t : ℕ) → apply-ranges-lts.Need-same-length-7 (
-  new-reads.Asked,
-  new-reads.Learnt,
-  child-reads.Asked,
-  child-reads.Learnt,
-  cut-reads.Asked,
-  cut-reads.Learnt,
-  conjoin-below t,
-  conjoin.Post,
-  slot-for-reads.Asked,
-  slot-for-reads.Learnt,
-  advance-reads.Asked,
-  advance-reads.Learnt,
-  create-node-reads.Asked,
-  create-node-reads.Learnt,
-) (apply-ranges-at t) apply-ranges.Post apply-ranges-Inv-loop apply-ranges-μ-loop
+apply-ranges-same-length-7 : (t : ℕ) → apply-ranges-lts.Need-same-length-7 (apply-ranges-claims t) (apply-ranges-at t) apply-ranges.Post apply-ranges-Inv-loop apply-ranges-μ-loop
 apply-ranges-same-length-7 t c = (then-made ((c .before .before .before .before .before .before .before .before .before .before .before .before .before .before .before .before .before .before .before .before .pre .1 .0)) (so-far (conj-walk _ _) ((c .before .before .before .before .before .before .before .before .before .before .before .before .before .before .before .before .before .before .before .before .args .head)) ((c .before .before .before .before .before .before .before .before .before .before .before .before .before .before .before .before .before .before .before .before .args .nodes .now)) ((c .before .before .before .before .before .before .before .before .before .before .before .before .before .before .before .before .before .before .before .before .args .children .now)) ((c .before .before .before .before .before .before .before .before .before .before .before .before .before .before .before .before .before .before .before .before .args .cuts .now)) ((c .before .before .before .before .before .before .before .before .before .before .before .before .before .before .before .before .before .before .before .before .args .memo .now)) ((c .before .before .before .before .before .before .before .before .before .before .before .before .before .before .before .before .before .before .before .before .args .a)) ((c .before .before .before .before .before .before .before .before .before .before .before .before .before .before .before .before .before .before .before .before .args .b)) ((c .before .before .before .before .before .before .before .before .before .before .before .before .before .before .before .before .before .before .before .before .pre .1 .0)) ((c .before .before .before .before .before .before .before .before .before .before .before .before .before .before .before .before .before .before .before .before .pre .1 .1)) ((c .before .before .before .before .before .before .before .before .before .before .before .before .before .before .before .before .before .before .before .before .pre .1 .2)) ((c .before .before .before .before .before .before .before .before .before .before .before .before .before .before .loop .inv))) entry-grown ((c .before .before .before .before .before .before .before .create-node .ensures .0))) .outcome .stays .wide
 
-apply-ranges-same-length-8 : (t : ℕ) → apply-ranges-lts.Need-same-length-8 (
-  new-reads.Asked,
-  new-reads.Learnt,
-  child-reads.Asked,
-  child-reads.Learnt,
-  cut-reads.Asked,
-  cut-reads.Learnt,
-  conjoin-below t,
-  conjoin.Post,
-  slot-for-reads.Asked,
-  slot-for-reads.Learnt,
-  advance-reads.Asked,
-  advance-reads.Learnt,
-  create-node-reads.Asked,
-  create-node-reads.Learnt,
-) (apply-ranges-at t) apply-ranges.Post apply-ranges-Inv-loop apply-ranges-μ-loop
+apply-ranges-same-length-8 : (t : ℕ) → apply-ranges-lts.Need-same-length-8 (apply-ranges-claims t) (apply-ranges-at t) apply-ranges.Post apply-ranges-Inv-loop apply-ranges-μ-loop
 apply-ranges-same-length-8 t c = cuts-long ((c .before .before .before .before .before .before .before .before .before .before .before .before .before .before .before .before .before .before .before .before .pre .1 .0)) (then-made ((c .before .before .before .before .before .before .before .before .before .before .before .before .before .before .before .before .before .before .before .before .pre .1 .0)) (so-far (conj-walk _ _) ((c .before .before .before .before .before .before .before .before .before .before .before .before .before .before .before .before .before .before .before .before .args .head)) ((c .before .before .before .before .before .before .before .before .before .before .before .before .before .before .before .before .before .before .before .before .args .nodes .now)) ((c .before .before .before .before .before .before .before .before .before .before .before .before .before .before .before .before .before .before .before .before .args .children .now)) ((c .before .before .before .before .before .before .before .before .before .before .before .before .before .before .before .before .before .before .before .before .args .cuts .now)) ((c .before .before .before .before .before .before .before .before .before .before .before .before .before .before .before .before .before .before .before .before .args .memo .now)) ((c .before .before .before .before .before .before .before .before .before .before .before .before .before .before .before .before .before .before .before .before .args .a)) ((c .before .before .before .before .before .before .before .before .before .before .before .before .before .before .before .before .before .before .before .before .args .b)) ((c .before .before .before .before .before .before .before .before .before .before .before .before .before .before .before .before .before .before .before .before .pre .1 .0)) ((c .before .before .before .before .before .before .before .before .before .before .before .before .before .before .before .before .before .before .before .before .pre .1 .1)) ((c .before .before .before .before .before .before .before .before .before .before .before .before .before .before .before .before .before .before .before .before .pre .1 .2)) ((c .before .before .before .before .before .before .before .before .before .before .before .before .before .before .loop .inv))) entry-grown ((c .before .before .before .before .before .before .before .create-node .ensures .0)))
 
-apply-ranges-same-length-9 : (t : ℕ) → apply-ranges-lts.Need-same-length-9 (
-  new-reads.Asked,
-  new-reads.Learnt,
-  child-reads.Asked,
-  child-reads.Learnt,
-  cut-reads.Asked,
-  cut-reads.Learnt,
-  conjoin-below t,
-  conjoin.Post,
-  slot-for-reads.Asked,
-  slot-for-reads.Learnt,
-  advance-reads.Asked,
-  advance-reads.Learnt,
-  create-node-reads.Asked,
-  create-node-reads.Learnt,
-) (apply-ranges-at t) apply-ranges.Post apply-ranges-Inv-loop apply-ranges-μ-loop
+apply-ranges-same-length-9 : (t : ℕ) → apply-ranges-lts.Need-same-length-9 (apply-ranges-claims t) (apply-ranges-at t) apply-ranges.Post apply-ranges-Inv-loop apply-ranges-μ-loop
 apply-ranges-same-length-9 t c = index-long ((c .before .before .before .before .before .before .before .before .before .before .before .before .before .before .before .before .before .before .before .before .pre .1 .0)) (then-made ((c .before .before .before .before .before .before .before .before .before .before .before .before .before .before .before .before .before .before .before .before .pre .1 .0)) (so-far (conj-walk _ _) ((c .before .before .before .before .before .before .before .before .before .before .before .before .before .before .before .before .before .before .before .before .args .head)) ((c .before .before .before .before .before .before .before .before .before .before .before .before .before .before .before .before .before .before .before .before .args .nodes .now)) ((c .before .before .before .before .before .before .before .before .before .before .before .before .before .before .before .before .before .before .before .before .args .children .now)) ((c .before .before .before .before .before .before .before .before .before .before .before .before .before .before .before .before .before .before .before .before .args .cuts .now)) ((c .before .before .before .before .before .before .before .before .before .before .before .before .before .before .before .before .before .before .before .before .args .memo .now)) ((c .before .before .before .before .before .before .before .before .before .before .before .before .before .before .before .before .before .before .before .before .args .a)) ((c .before .before .before .before .before .before .before .before .before .before .before .before .before .before .before .before .before .before .before .before .args .b)) ((c .before .before .before .before .before .before .before .before .before .before .before .before .before .before .before .before .before .before .before .before .pre .1 .0)) ((c .before .before .before .before .before .before .before .before .before .before .before .before .before .before .before .before .before .before .before .before .pre .1 .1)) ((c .before .before .before .before .before .before .before .before .before .before .before .before .before .before .before .before .before .before .before .before .pre .1 .2)) ((c .before .before .before .before .before .before .before .before .before .before .before .before .before .before .loop .inv))) entry-grown ((c .before .before .before .before .before .before .before .create-node .ensures .0)))
 
-apply-ranges-same-length-10 : (t : ℕ) → apply-ranges-lts.Need-same-length-10 (
-  new-reads.Asked,
-  new-reads.Learnt,
-  child-reads.Asked,
-  child-reads.Learnt,
-  cut-reads.Asked,
-  cut-reads.Learnt,
-  conjoin-below t,
-  conjoin.Post,
-  slot-for-reads.Asked,
-  slot-for-reads.Learnt,
-  advance-reads.Asked,
-  advance-reads.Learnt,
-  create-node-reads.Asked,
-  create-node-reads.Learnt,
-) (apply-ranges-at t) apply-ranges.Post apply-ranges-Inv-loop apply-ranges-μ-loop
+apply-ranges-same-length-10 : (t : ℕ) → apply-ranges-lts.Need-same-length-10 (apply-ranges-claims t) (apply-ranges-at t) apply-ranges.Post apply-ranges-Inv-loop apply-ranges-μ-loop
 apply-ranges-same-length-10 t c = (c .before .before .before .before .before .before .before .before .before .before .before .before .before .before .loop .inv .long)
 
-apply-ranges-returns-2 : (t : ℕ) → apply-ranges-lts.Need-returns-2 (
-  new-reads.Asked,
-  new-reads.Learnt,
-  child-reads.Asked,
-  child-reads.Learnt,
-  cut-reads.Asked,
-  cut-reads.Learnt,
-  conjoin-below t,
-  conjoin.Post,
-  slot-for-reads.Asked,
-  slot-for-reads.Learnt,
-  advance-reads.Asked,
-  advance-reads.Learnt,
-  create-node-reads.Asked,
-  create-node-reads.Learnt,
-) (apply-ranges-at t) apply-ranges.Post apply-ranges-Inv-loop apply-ranges-μ-loop
+apply-ranges-returns-2 : (t : ℕ) → apply-ranges-lts.Need-returns-2 (apply-ranges-claims t) (apply-ranges-at t) apply-ranges.Post apply-ranges-Inv-loop apply-ranges-μ-loop
 apply-ranges-returns-2 t c = closed-it (conj-walk _ _) ((c .before .before .before .before .before .before .before .before .before .before .before .before .before .before .before .before .before .before .before .before .args .head)) ((c .before .before .before .before .before .before .before .before .before .before .before .before .before .before .before .before .before .before .before .before .args .nodes .now)) ((c .before .before .before .before .before .before .before .before .before .before .before .before .before .before .before .before .before .before .before .before .args .children .now)) ((c .before .before .before .before .before .before .before .before .before .before .before .before .before .before .before .before .before .before .before .before .args .cuts .now)) ((c .before .before .before .before .before .before .before .before .before .before .before .before .before .before .before .before .before .before .before .before .args .memo .now)) ((c .before .before .before .before .before .before .before .before .before .before .before .before .before .before .before .before .before .before .before .before .args .a)) ((c .before .before .before .before .before .before .before .before .before .before .before .before .before .before .before .before .before .before .before .before .args .b)) ((c .before .before .before .before .before .before .before .before .before .before .before .before .before .before .before .before .before .before .before .before .pre .1 .0)) ((c .before .before .before .before .before .before .before .before .before .before .before .before .before .before .before .before .before .before .before .before .pre .1 .1)) ((c .before .before .before .before .before .before .before .before .before .before .before .before .before .before .before .before .before .before .before .before .pre .1 .2)) ((c .before .before .before .before .before .before .before .before .before .before .before .before .before .before .loop .inv)) ((c .before .before .before .before .before .before .before .before .before .before .before .before .before .loop-test .left)) (not-false _ ((c .before .before .before .before .before .before .before .before .before .before .before .before .if1 .left))) ((c .before .before .before .before .before .before .before .create-node .ensures .0))
 
-conjoin-opened-requires : (t : ℕ) → conjoin-lts.Need-opened-requires (
-  opened-reads.Asked,
-  opened-reads.Learnt,
-  recall-reads.Asked,
-  recall-reads.Learnt,
-  first-variable-reads.Asked,
-  first-variable-reads.Learnt,
-  view-of-reads.Asked,
-  view-of-reads.Learnt,
-  apply-below t,
-  apply.Post,
-  remember-reads.Asked,
-  remember-reads.Learnt,
-) (conjoin-at t) conjoin.Post
-conjoin-opened-requires t c κs = search needs
-
-conjoin-returns : (t : ℕ) → conjoin-lts.Need-returns (
-  opened-reads.Asked,
-  opened-reads.Learnt,
-  recall-reads.Asked,
-  recall-reads.Learnt,
-  first-variable-reads.Asked,
-  first-variable-reads.Learnt,
-  view-of-reads.Asked,
-  view-of-reads.Learnt,
-  apply-below t,
-  apply.Post,
-  remember-reads.Asked,
-  remember-reads.Learnt,
-) (conjoin-at t) conjoin.Post
+conjoin-returns : (t : ℕ) → conjoin-lts.Need-returns (conjoin-claims t) (conjoin-at t) conjoin.Post
 conjoin-returns t c = settled ((c .before .before .before .before .before .before .before .pre .1 .0)) _ (opened-is ((c .before .before .before .before .before .before .before .pre .1 .0)) ((c .before .before .before .before .before .before .before .pre .1 .1)) ((c .before .before .before .before .before .before .before .pre .1 .2)) ((c .before .before .opened .ensures .0) ((c .before .if1 .taken))))
 
-conjoin-recall-requires : (t : ℕ) → conjoin-lts.Need-recall-requires (
-  opened-reads.Asked,
-  opened-reads.Learnt,
-  recall-reads.Asked,
-  recall-reads.Learnt,
-  first-variable-reads.Asked,
-  first-variable-reads.Learnt,
-  view-of-reads.Asked,
-  view-of-reads.Learnt,
-  apply-below t,
-  apply.Post,
-  remember-reads.Asked,
-  remember-reads.Learnt,
-) (conjoin-at t) conjoin.Post
+conjoin-recall-requires : (t : ℕ) → conjoin-lts.Need-recall-requires (conjoin-claims t) (conjoin-at t) conjoin.Post
 conjoin-recall-requires t c κs = ((c .before .before .before .before .before .before .before .pre .1 .0 .lent .allowed .some-nodes), (c .before .before .before .before .before .before .before .pre .1 .0 .lent .allowed .most-nodes), (c .before .before .before .before .before .before .before .pre .1 .0 .long))
 
-conjoin-same-length : (t : ℕ) → conjoin-lts.Need-same-length (
-  opened-reads.Asked,
-  opened-reads.Learnt,
-  recall-reads.Asked,
-  recall-reads.Learnt,
-  first-variable-reads.Asked,
-  first-variable-reads.Learnt,
-  view-of-reads.Asked,
-  view-of-reads.Learnt,
-  apply-below t,
-  apply.Post,
-  remember-reads.Asked,
-  remember-reads.Learnt,
-) (conjoin-at t) conjoin.Post
-conjoin-same-length t c = search needs
-
-conjoin-returns-2 : (t : ℕ) → conjoin-lts.Need-returns-2 (
-  opened-reads.Asked,
-  opened-reads.Learnt,
-  recall-reads.Asked,
-  recall-reads.Learnt,
-  first-variable-reads.Asked,
-  first-variable-reads.Learnt,
-  view-of-reads.Asked,
-  view-of-reads.Learnt,
-  apply-below t,
-  apply.Post,
-  remember-reads.Asked,
-  remember-reads.Learnt,
-) (conjoin-at t) conjoin.Post
+conjoin-returns-2 : (t : ℕ) → conjoin-lts.Need-returns-2 (conjoin-claims t) (conjoin-at t) conjoin.Post
 conjoin-returns-2 t c = settled ((c .before .before .before .before .before .before .before .before .before .before .pre .1 .0)) _ (recalled-is ((c .before .before .before .before .before .before .before .before .before .before .pre .1 .0)) ((c .before .before .before .before .before .before .before .before .before .before .pre .1 .1)) ((c .before .before .before .before .before .before .before .before .before .before .pre .1 .2)) (memo-hit ((c .before .before .before .before .before .before .before .before .before .before .pre .1 .0 .recalled)) (omega (arith, left-node ((c .before .before .before .before .before .before .before .before .before .before .pre .1 .0)) ((c .before .before .before .before .before .before .before .before .before .before .pre .1 .1)) ((c .before .before .before .before .before .before .before .before .before .before .pre .1 .2)) (((c .before .before .before .before .before .opened .ensures .1)) ((c .before .before .before .before .if1 .left))))) (((c .before .before .recall .ensures)) ((c .before .if2 .taken)))))
 
-conjoin-first-variable-requires : (t : ℕ) → conjoin-lts.Need-first-variable-requires (
-  opened-reads.Asked,
-  opened-reads.Learnt,
-  recall-reads.Asked,
-  recall-reads.Learnt,
-  first-variable-reads.Asked,
-  first-variable-reads.Learnt,
-  view-of-reads.Asked,
-  view-of-reads.Learnt,
-  apply-below t,
-  apply.Post,
-  remember-reads.Asked,
-  remember-reads.Learnt,
-) (conjoin-at t) conjoin.Post
+conjoin-first-variable-requires : (t : ℕ) → conjoin-lts.Need-first-variable-requires (conjoin-claims t) (conjoin-at t) conjoin.Post
 conjoin-first-variable-requires t c κs = (can-read ((c .before .before .before .before .before .before .before .before .before .before .before .before .pre .1 .0)), left-node ((c .before .before .before .before .before .before .before .before .before .before .before .before .pre .1 .0)) ((c .before .before .before .before .before .before .before .before .before .before .before .before .pre .1 .1)) ((c .before .before .before .before .before .before .before .before .before .before .before .before .pre .1 .2)) ((c .before .before .before .before .before .before .before .opened .ensures .1) ((c .before .before .before .before .before .before .if1 .left))), (c .before .before .before .before .before .before .before .before .before .before .before .before .pre .1 .1 .known), right-node ((c .before .before .before .before .before .before .before .before .before .before .before .before .pre .1 .0)) ((c .before .before .before .before .before .before .before .before .before .before .before .before .pre .1 .1)) ((c .before .before .before .before .before .before .before .before .before .before .before .before .pre .1 .2)) ((c .before .before .before .before .before .before .before .opened .ensures .1) ((c .before .before .before .before .before .before .if1 .left))), (c .before .before .before .before .before .before .before .before .before .before .before .before .pre .1 .2 .known))
 
-conjoin-view-of-requires : (t : ℕ) → conjoin-lts.Need-view-of-requires (
-  opened-reads.Asked,
-  opened-reads.Learnt,
-  recall-reads.Asked,
-  recall-reads.Learnt,
-  first-variable-reads.Asked,
-  first-variable-reads.Learnt,
-  view-of-reads.Asked,
-  view-of-reads.Learnt,
-  apply-below t,
-  apply.Post,
-  remember-reads.Asked,
-  remember-reads.Learnt,
-) (conjoin-at t) conjoin.Post
+conjoin-view-of-requires : (t : ℕ) → conjoin-lts.Need-view-of-requires (conjoin-claims t) (conjoin-at t) conjoin.Post
 conjoin-view-of-requires t c κs = (can-read ((c .before .before .before .before .before .before .before .before .before .before .before .before .before .before .before .before .pre .1 .0)), left-node ((c .before .before .before .before .before .before .before .before .before .before .before .before .before .before .before .before .pre .1 .0)) ((c .before .before .before .before .before .before .before .before .before .before .before .before .before .before .before .before .pre .1 .1)) ((c .before .before .before .before .before .before .before .before .before .before .before .before .before .before .before .before .pre .1 .2)) ((c .before .before .before .before .before .before .before .before .before .before .before .opened .ensures .1) ((c .before .before .before .before .before .before .before .before .before .before .if1 .left))), (c .before .before .before .before .before .before .before .before .before .before .before .before .before .before .before .before .pre .1 .1 .known))
 
-conjoin-view-of-requires-2 : (t : ℕ) → conjoin-lts.Need-view-of-requires-2 (
-  opened-reads.Asked,
-  opened-reads.Learnt,
-  recall-reads.Asked,
-  recall-reads.Learnt,
-  first-variable-reads.Asked,
-  first-variable-reads.Learnt,
-  view-of-reads.Asked,
-  view-of-reads.Learnt,
-  apply-below t,
-  apply.Post,
-  remember-reads.Asked,
-  remember-reads.Learnt,
-) (conjoin-at t) conjoin.Post
+conjoin-view-of-requires-2 : (t : ℕ) → conjoin-lts.Need-view-of-requires-2 (conjoin-claims t) (conjoin-at t) conjoin.Post
 conjoin-view-of-requires-2 t c κs = (can-read ((c .before .before .before .before .before .before .before .before .before .before .before .before .before .before .before .before .before .before .before .before .pre .1 .0)), right-node ((c .before .before .before .before .before .before .before .before .before .before .before .before .before .before .before .before .before .before .before .before .pre .1 .0)) ((c .before .before .before .before .before .before .before .before .before .before .before .before .before .before .before .before .before .before .before .before .pre .1 .1)) ((c .before .before .before .before .before .before .before .before .before .before .before .before .before .before .before .before .before .before .before .before .pre .1 .2)) ((c .before .before .before .before .before .before .before .before .before .before .before .before .before .before .before .opened .ensures .1) ((c .before .before .before .before .before .before .before .before .before .before .before .before .before .before .if1 .left))), (c .before .before .before .before .before .before .before .before .before .before .before .before .before .before .before .before .before .before .before .before .pre .1 .2 .known))
 
-conjoin-sub-apply : (t : ℕ) → conjoin-lts.Need-sub-apply (
-  opened-reads.Asked,
-  opened-reads.Learnt,
-  recall-reads.Asked,
-  recall-reads.Learnt,
-  first-variable-reads.Asked,
-  first-variable-reads.Learnt,
-  view-of-reads.Asked,
-  view-of-reads.Learnt,
-  apply-below t,
-  apply.Post,
-  remember-reads.Asked,
-  remember-reads.Learnt,
-) (conjoin-at t) conjoin.Post
+conjoin-sub-apply : (t : ℕ) → conjoin-lts.Need-sub-apply (conjoin-claims t) (conjoin-at t) conjoin.Post
 conjoin-sub-apply t c = call-left ((c .before .before .before .before .before .before .before .before .before .before .before .before .before .before .before .before .before .before .before .before .before .before .before .before .before .before .pre .1 .0)) ((c .before .before .before .before .before .before .before .before .before .before .before .before .before .before .before .before .before .before .before .before .before .before .before .before .before .before .pre .1 .1))
 
-conjoin-apply-requires : (t : ℕ) → conjoin-lts.Need-apply-requires (
-  opened-reads.Asked,
-  opened-reads.Learnt,
-  recall-reads.Asked,
-  recall-reads.Learnt,
-  first-variable-reads.Asked,
-  first-variable-reads.Learnt,
-  view-of-reads.Asked,
-  view-of-reads.Learnt,
-  apply-below t,
-  apply.Post,
-  remember-reads.Asked,
-  remember-reads.Learnt,
-) (conjoin-at t) conjoin.Post
+conjoin-apply-requires : (t : ℕ) → conjoin-lts.Need-apply-requires (conjoin-claims t) (conjoin-at t) conjoin.Post
 conjoin-apply-requires t c κs = (omega (arith, (c .before .before .before .before .before .before .before .before .before .before .before .before .before .before .before .before .before .before .before .before .before .before .before .before .before .before .pre .0), call-left ((c .before .before .before .before .before .before .before .before .before .before .before .before .before .before .before .before .before .before .before .before .before .before .before .before .before .before .pre .1 .0)) ((c .before .before .before .before .before .before .before .before .before .before .before .before .before .before .before .before .before .before .before .before .before .before .before .before .before .before .pre .1 .1))), ((c .before .before .before .before .before .before .before .before .before .before .before .before .before .before .before .before .before .before .before .before .before .before .before .before .before .before .pre .1 .0), sides ((c .before .before .before .before .before .before .before .before .before .before .before .before .before .before .before .before .before .before .before .before .before .before .before .before .before .before .pre .1 .0)) ((c .before .before .before .before .before .before .before .before .before .before .before .before .before .before .before .before .before .before .before .before .before .before .before .before .before .before .pre .1 .1)) ((c .before .before .before .before .before .before .before .before .before .before .before .before .before .before .before .before .before .before .before .before .before .before .before .before .before .before .pre .1 .2)) ((c .before .before .before .before .before .before .before .before .before .before .before .before .before .before .before .before .before .before .before .before .before .opened .ensures .1) ((c .before .before .before .before .before .before .before .before .before .before .before .before .before .before .before .before .before .before .before .before .if1 .left))) ((c .before .before .before .before .before .before .before .before .before .before .before .before .before .first-variable .ensures .0)) ((c .before .before .before .before .before .before .before .before .before .before .before .before .before .first-variable .ensures .1)) ((c .before .before .before .before .before .before .before .before .before .view-of .ensures)) ((c .before .before .before .before .before .view-of2 .ensures))))
 
-conjoin-remember-requires : (t : ℕ) → conjoin-lts.Need-remember-requires (
-  opened-reads.Asked,
-  opened-reads.Learnt,
-  recall-reads.Asked,
-  recall-reads.Learnt,
-  first-variable-reads.Asked,
-  first-variable-reads.Learnt,
-  view-of-reads.Asked,
-  view-of-reads.Learnt,
-  apply-below t,
-  apply.Post,
-  remember-reads.Asked,
-  remember-reads.Learnt,
-) (conjoin-at t) conjoin.Post
+conjoin-remember-requires : (t : ℕ) → conjoin-lts.Need-remember-requires (conjoin-claims t) (conjoin-at t) conjoin.Post
 conjoin-remember-requires t c κs = ((c .before .before .before .before .before .before .before .before .before .before .before .before .before .before .before .before .before .before .before .before .before .before .before .before .before .before .before .before .before .before .before .before .before .before .before .before .before .before .before .pre .1 .0 .lent .allowed .some-nodes), (c .before .before .before .before .before .before .before .before .before .before .before .before .before .before .before .before .before .before .before .before .before .before .before .before .before .before .before .before .before .before .before .before .before .before .before .before .before .before .before .pre .1 .0 .lent .allowed .most-nodes), (c .before .before .before .before .before .before .before .before .before .before .before .before .apply .ensures .long) ∙ (c .before .before .before .before .before .before .before .before .before .before .before .before .before .before .before .before .before .before .before .before .before .before .before .before .before .before .before .before .before .before .before .before .before .before .before .before .before .before .before .pre .1 .0 .long))
 
-conjoin-same-length-2 : (t : ℕ) → conjoin-lts.Need-same-length-2 (
-  opened-reads.Asked,
-  opened-reads.Learnt,
-  recall-reads.Asked,
-  recall-reads.Learnt,
-  first-variable-reads.Asked,
-  first-variable-reads.Learnt,
-  view-of-reads.Asked,
-  view-of-reads.Learnt,
-  apply-below t,
-  apply.Post,
-  remember-reads.Asked,
-  remember-reads.Learnt,
-) (conjoin-at t) conjoin.Post
+conjoin-same-length-2 : (t : ℕ) → conjoin-lts.Need-same-length-2 (conjoin-claims t) (conjoin-at t) conjoin.Post
 conjoin-same-length-2 t c = (c .before .before .before .before .before .before .before .before .before .before .before .before .before .before .before .apply .ensures .outcome .stays .long)
 
-conjoin-same-length-3 : (t : ℕ) → conjoin-lts.Need-same-length-3 (
-  opened-reads.Asked,
-  opened-reads.Learnt,
-  recall-reads.Asked,
-  recall-reads.Learnt,
-  first-variable-reads.Asked,
-  first-variable-reads.Learnt,
-  view-of-reads.Asked,
-  view-of-reads.Learnt,
-  apply-below t,
-  apply.Post,
-  remember-reads.Asked,
-  remember-reads.Learnt,
-) (conjoin-at t) conjoin.Post
+conjoin-same-length-3 : (t : ℕ) → conjoin-lts.Need-same-length-3 (conjoin-claims t) (conjoin-at t) conjoin.Post
 conjoin-same-length-3 t c = (c .before .before .before .before .before .before .before .before .before .before .before .before .before .before .before .apply .ensures .outcome .stays .wide)
 
-conjoin-same-length-4 : (t : ℕ) → conjoin-lts.Need-same-length-4 (
-  opened-reads.Asked,
-  opened-reads.Learnt,
-  recall-reads.Asked,
-  recall-reads.Learnt,
-  first-variable-reads.Asked,
-  first-variable-reads.Learnt,
-  view-of-reads.Asked,
-  view-of-reads.Learnt,
-  apply-below t,
-  apply.Post,
-  remember-reads.Asked,
-  remember-reads.Learnt,
-) (conjoin-at t) conjoin.Post
+conjoin-same-length-4 : (t : ℕ) → conjoin-lts.Need-same-length-4 (conjoin-claims t) (conjoin-at t) conjoin.Post
 conjoin-same-length-4 t c = cuts-long ((c .before .before .before .before .before .before .before .before .before .before .before .before .before .before .before .before .before .before .before .before .before .before .before .before .before .before .before .before .before .before .before .before .before .before .before .before .before .before .before .before .before .before .pre .1 .0)) ((c .before .before .before .before .before .before .before .before .before .before .before .before .before .before .before .apply .ensures))
 
-conjoin-same-length-5 : (t : ℕ) → conjoin-lts.Need-same-length-5 (
-  opened-reads.Asked,
-  opened-reads.Learnt,
-  recall-reads.Asked,
-  recall-reads.Learnt,
-  first-variable-reads.Asked,
-  first-variable-reads.Learnt,
-  view-of-reads.Asked,
-  view-of-reads.Learnt,
-  apply-below t,
-  apply.Post,
-  remember-reads.Asked,
-  remember-reads.Learnt,
-) (conjoin-at t) conjoin.Post
+conjoin-same-length-5 : (t : ℕ) → conjoin-lts.Need-same-length-5 (conjoin-claims t) (conjoin-at t) conjoin.Post
 conjoin-same-length-5 t c = index-long ((c .before .before .before .before .before .before .before .before .before .before .before .before .before .before .before .before .before .before .before .before .before .before .before .before .before .before .before .before .before .before .before .before .before .before .before .before .before .before .before .before .before .before .pre .1 .0)) ((c .before .before .before .before .before .before .before .before .before .before .before .before .before .before .before .apply .ensures))
 
-conjoin-same-length-6 : (t : ℕ) → conjoin-lts.Need-same-length-6 (
-  opened-reads.Asked,
-  opened-reads.Learnt,
-  recall-reads.Asked,
-  recall-reads.Learnt,
-  first-variable-reads.Asked,
-  first-variable-reads.Learnt,
-  view-of-reads.Asked,
-  view-of-reads.Learnt,
-  apply-below t,
-  apply.Post,
-  remember-reads.Asked,
-  remember-reads.Learnt,
-) (conjoin-at t) conjoin.Post
+conjoin-same-length-6 : (t : ℕ) → conjoin-lts.Need-same-length-6 (conjoin-claims t) (conjoin-at t) conjoin.Post
 conjoin-same-length-6 t c = overwritten-long ((c .before .before .remember .ensures)) ∙ ((c .before .before .before .before .before .before .before .before .before .before .before .before .before .before .before .apply .ensures .long))
 
-conjoin-returns-3 : (t : ℕ) → conjoin-lts.Need-returns-3 (
-  opened-reads.Asked,
-  opened-reads.Learnt,
-  recall-reads.Asked,
-  recall-reads.Learnt,
-  first-variable-reads.Asked,
-  first-variable-reads.Learnt,
-  view-of-reads.Asked,
-  view-of-reads.Learnt,
-  apply-below t,
-  apply.Post,
-  remember-reads.Asked,
-  remember-reads.Learnt,
-) (conjoin-at t) conjoin.Post
+conjoin-returns-3 : (t : ℕ) → conjoin-lts.Need-returns-3 (conjoin-claims t) (conjoin-at t) conjoin.Post
 conjoin-returns-3 t c = noted (becomes ((c .before .before .before .before .before .before .before .before .before .before .before .before .before .before .before .apply .ensures)) (both-is ((c .before .before .before .before .before .before .before .before .before .before .before .before .before .before .before .before .before .before .before .before .before .before .before .before .before .before .before .before .before .before .before .before .before .before .before .before .before .before .before .before .before .before .pre .1 .0)) ((c .before .before .before .before .before .before .before .before .before .before .before .before .before .before .before .before .before .before .before .before .before .before .before .before .before .before .before .before .before .before .before .before .before .before .before .before .before .before .before .before .before .before .pre .1 .1)) ((c .before .before .before .before .before .before .before .before .before .before .before .before .before .before .before .before .before .before .before .before .before .before .before .before .before .before .before .before .before .before .before .before .before .before .before .before .before .before .before .before .before .before .pre .1 .2)) (((c .before .before .before .before .before .before .before .before .before .before .before .before .before .before .before .before .before .before .before .before .before .before .before .before .before .before .before .before .before .before .before .before .before .before .before .before .before .opened .ensures .1)) ((c .before .before .before .before .before .before .before .before .before .before .before .before .before .before .before .before .before .before .before .before .before .before .before .before .before .before .before .before .before .before .before .before .before .before .before .before .if1 .left))) ((c .before .before .before .before .before .before .before .before .before .before .before .before .before .before .before .before .before .before .before .before .before .before .before .before .before .before .before .before .before .first-variable .ensures .0)) ((c .before .before .before .before .before .before .before .before .before .before .before .before .before .before .before .before .before .before .before .before .before .before .before .before .before .before .before .before .before .first-variable .ensures .1)) ((c .before .before .before .before .before .before .before .before .before .before .before .before .before .before .before .before .before .before .before .before .before .before .before .before .before .view-of .ensures)) ((c .before .before .before .before .before .before .before .before .before .before .before .before .before .before .before .before .before .before .before .before .before .view-of2 .ensures)))) (entry-of ((c .before .before .before .before .before .before .before .before .before .before .before .before .before .before .before .before .before .before .before .before .before .before .before .before .before .before .before .before .before .before .before .before .before .before .before .before .before .before .before .before .before .before .pre .1 .0)) ((c .before .before .before .before .before .before .before .before .before .before .before .before .before .before .before .before .before .before .before .before .before .before .before .before .before .before .before .before .before .before .before .before .before .before .before .before .before .before .before .before .before .before .pre .1 .1)) ((c .before .before .before .before .before .before .before .before .before .before .before .before .before .before .before .before .before .before .before .before .before .before .before .before .before .before .before .before .before .before .before .before .before .before .before .before .before .before .before .before .before .before .pre .1 .2)) (both-is ((c .before .before .before .before .before .before .before .before .before .before .before .before .before .before .before .before .before .before .before .before .before .before .before .before .before .before .before .before .before .before .before .before .before .before .before .before .before .before .before .before .before .before .pre .1 .0)) ((c .before .before .before .before .before .before .before .before .before .before .before .before .before .before .before .before .before .before .before .before .before .before .before .before .before .before .before .before .before .before .before .before .before .before .before .before .before .before .before .before .before .before .pre .1 .1)) ((c .before .before .before .before .before .before .before .before .before .before .before .before .before .before .before .before .before .before .before .before .before .before .before .before .before .before .before .before .before .before .before .before .before .before .before .before .before .before .before .before .before .before .pre .1 .2)) (((c .before .before .before .before .before .before .before .before .before .before .before .before .before .before .before .before .before .before .before .before .before .before .before .before .before .before .before .before .before .before .before .before .before .before .before .before .before .opened .ensures .1)) ((c .before .before .before .before .before .before .before .before .before .before .before .before .before .before .before .before .before .before .before .before .before .before .before .before .before .before .before .before .before .before .before .before .before .before .before .before .if1 .left))) ((c .before .before .before .before .before .before .before .before .before .before .before .before .before .before .before .before .before .before .before .before .before .before .before .before .before .before .before .before .before .first-variable .ensures .0)) ((c .before .before .before .before .before .before .before .before .before .before .before .before .before .before .before .before .before .before .before .before .before .before .before .before .before .before .before .before .before .first-variable .ensures .1)) ((c .before .before .before .before .before .before .before .before .before .before .before .before .before .before .before .before .before .before .before .before .before .before .before .before .before .view-of .ensures)) ((c .before .before .before .before .before .before .before .before .before .before .before .before .before .before .before .before .before .before .before .before .before .view-of2 .ensures))) (((c .before .before .before .before .before .before .before .before .before .before .before .before .before .before .before .apply .ensures .outcome .table)) ((c .before .before .before .before .before .if3 .taken))) (((c .before .before .before .before .before .before .before .before .before .before .before .before .before .before .before .apply .ensures .outcome .id)) ((c .before .before .before .before .before .if3 .taken)))) ((c .before .before .remember .ensures))
 
-conjoin-same-length-7 : (t : ℕ) → conjoin-lts.Need-same-length-7 (
-  opened-reads.Asked,
-  opened-reads.Learnt,
-  recall-reads.Asked,
-  recall-reads.Learnt,
-  first-variable-reads.Asked,
-  first-variable-reads.Learnt,
-  view-of-reads.Asked,
-  view-of-reads.Learnt,
-  apply-below t,
-  apply.Post,
-  remember-reads.Asked,
-  remember-reads.Learnt,
-) (conjoin-at t) conjoin.Post
+conjoin-same-length-7 : (t : ℕ) → conjoin-lts.Need-same-length-7 (conjoin-claims t) (conjoin-at t) conjoin.Post
 conjoin-same-length-7 t c = (c .before .before .before .before .before .before .before .before .before .before .apply .ensures .outcome .stays .long)
 
-conjoin-same-length-8 : (t : ℕ) → conjoin-lts.Need-same-length-8 (
-  opened-reads.Asked,
-  opened-reads.Learnt,
-  recall-reads.Asked,
-  recall-reads.Learnt,
-  first-variable-reads.Asked,
-  first-variable-reads.Learnt,
-  view-of-reads.Asked,
-  view-of-reads.Learnt,
-  apply-below t,
-  apply.Post,
-  remember-reads.Asked,
-  remember-reads.Learnt,
-) (conjoin-at t) conjoin.Post
+conjoin-same-length-8 : (t : ℕ) → conjoin-lts.Need-same-length-8 (conjoin-claims t) (conjoin-at t) conjoin.Post
 conjoin-same-length-8 t c = (c .before .before .before .before .before .before .before .before .before .before .apply .ensures .outcome .stays .wide)
 
-conjoin-same-length-9 : (t : ℕ) → conjoin-lts.Need-same-length-9 (
-  opened-reads.Asked,
-  opened-reads.Learnt,
-  recall-reads.Asked,
-  recall-reads.Learnt,
-  first-variable-reads.Asked,
-  first-variable-reads.Learnt,
-  view-of-reads.Asked,
-  view-of-reads.Learnt,
-  apply-below t,
-  apply.Post,
-  remember-reads.Asked,
-  remember-reads.Learnt,
-) (conjoin-at t) conjoin.Post
+conjoin-same-length-9 : (t : ℕ) → conjoin-lts.Need-same-length-9 (conjoin-claims t) (conjoin-at t) conjoin.Post
 conjoin-same-length-9 t c = cuts-long ((c .before .before .before .before .before .before .before .before .before .before .before .before .before .before .before .before .before .before .before .before .before .before .before .before .before .before .before .before .before .before .before .before .before .before .before .before .before .pre .1 .0)) ((c .before .before .before .before .before .before .before .before .before .before .apply .ensures))
 
-conjoin-same-length-10 : (t : ℕ) → conjoin-lts.Need-same-length-10 (
-  opened-reads.Asked,
-  opened-reads.Learnt,
-  recall-reads.Asked,
-  recall-reads.Learnt,
-  first-variable-reads.Asked,
-  first-variable-reads.Learnt,
-  view-of-reads.Asked,
-  view-of-reads.Learnt,
-  apply-below t,
-  apply.Post,
-  remember-reads.Asked,
-  remember-reads.Learnt,
-) (conjoin-at t) conjoin.Post
+conjoin-same-length-10 : (t : ℕ) → conjoin-lts.Need-same-length-10 (conjoin-claims t) (conjoin-at t) conjoin.Post
 conjoin-same-length-10 t c = index-long ((c .before .before .before .before .before .before .before .before .before .before .before .before .before .before .before .before .before .before .before .before .before .before .before .before .before .before .before .before .before .before .before .before .before .before .before .before .before .pre .1 .0)) ((c .before .before .before .before .before .before .before .before .before .before .apply .ensures))
 
-conjoin-same-length-11 : (t : ℕ) → conjoin-lts.Need-same-length-11 (
-  opened-reads.Asked,
-  opened-reads.Learnt,
-  recall-reads.Asked,
-  recall-reads.Learnt,
-  first-variable-reads.Asked,
-  first-variable-reads.Learnt,
-  view-of-reads.Asked,
-  view-of-reads.Learnt,
-  apply-below t,
-  apply.Post,
-  remember-reads.Asked,
-  remember-reads.Learnt,
-) (conjoin-at t) conjoin.Post
+conjoin-same-length-11 : (t : ℕ) → conjoin-lts.Need-same-length-11 (conjoin-claims t) (conjoin-at t) conjoin.Post
 conjoin-same-length-11 t c = (c .before .before .before .before .before .before .before .before .before .before .apply .ensures .long)
 
-conjoin-returns-4 : (t : ℕ) → conjoin-lts.Need-returns-4 (
-  opened-reads.Asked,
-  opened-reads.Learnt,
-  recall-reads.Asked,
-  recall-reads.Learnt,
-  first-variable-reads.Asked,
-  first-variable-reads.Learnt,
-  view-of-reads.Asked,
-  view-of-reads.Learnt,
-  apply-below t,
-  apply.Post,
-  remember-reads.Asked,
-  remember-reads.Learnt,
-) (conjoin-at t) conjoin.Post
+conjoin-returns-4 : (t : ℕ) → conjoin-lts.Need-returns-4 (conjoin-claims t) (conjoin-at t) conjoin.Post
 conjoin-returns-4 t c = becomes ((c .before .before .before .before .before .before .before .before .before .before .apply .ensures)) (both-is ((c .before .before .before .before .before .before .before .before .before .before .before .before .before .before .before .before .before .before .before .before .before .before .before .before .before .before .before .before .before .before .before .before .before .before .before .before .before .pre .1 .0)) ((c .before .before .before .before .before .before .before .before .before .before .before .before .before .before .before .before .before .before .before .before .before .before .before .before .before .before .before .before .before .before .before .before .before .before .before .before .before .pre .1 .1)) ((c .before .before .before .before .before .before .before .before .before .before .before .before .before .before .before .before .before .before .before .before .before .before .before .before .before .before .before .before .before .before .before .before .before .before .before .before .before .pre .1 .2)) ((c .before .before .before .before .before .before .before .before .before .before .before .before .before .before .before .before .before .before .before .before .before .before .before .before .before .before .before .before .before .before .before .before .opened .ensures .1) ((c .before .before .before .before .before .before .before .before .before .before .before .before .before .before .before .before .before .before .before .before .before .before .before .before .before .before .before .before .before .before .before .if1 .left))) ((c .before .before .before .before .before .before .before .before .before .before .before .before .before .before .before .before .before .before .before .before .before .before .before .before .first-variable .ensures .0)) ((c .before .before .before .before .before .before .before .before .before .before .before .before .before .before .before .before .before .before .before .before .before .before .before .before .first-variable .ensures .1)) ((c .before .before .before .before .before .before .before .before .before .before .before .before .before .before .before .before .before .before .before .before .view-of .ensures)) ((c .before .before .before .before .before .before .before .before .before .before .before .before .before .before .before .before .view-of2 .ensures)))
 
 pub +apply+apply-ranges+conjoin-spec : {M : Type 1} → statement M
-+apply+apply-ranges+conjoin-spec = close μ-apply μ-apply-ranges μ-conjoin (λ t. apply-lts.spec (
-  apply-ranges-below t,
-  apply-ranges.Post,
-  edge-of-reads.Asked,
-  edge-of-reads.Learnt,
-  child-reads.Asked,
-  child-reads.Learnt,
-  conjoin-below t,
-  conjoin.Post,
-  first-unless-reads.Asked,
-  first-unless-reads.Learnt,
-  create-pair-reads.Asked,
-  create-pair-reads.Learnt,
-)
++apply+apply-ranges+conjoin-spec = close μ-apply μ-apply-ranges μ-conjoin (λ t. apply-lts.spec (apply-claims t)
     (apply-at t)
     apply.Post
     (apply-apply-ranges-requires t)
@@ -1624,8 +371,8 @@ pub +apply+apply-ranges+conjoin-spec : {M : Type 1} → statement M
     (apply-same-length-14 t)
     (apply-same-length-15 t)
     (apply-returns-3 t)
-    (apply-first-unless-requires t)
-    (apply-first-unless-requires-2 t)
+    (λ c κs. search needs)
+    (λ c κs. search needs)
     (apply-create-pair-requires t)
     (apply-same-length-16 t)
     (apply-same-length-17 t)
@@ -1633,35 +380,20 @@ pub +apply+apply-ranges+conjoin-spec : {M : Type 1} → statement M
     (apply-same-length-19 t)
     (apply-same-length-20 t)
     (apply-returns-4 t))
-    (λ t. apply-ranges-lts.spec (
-      new-reads.Asked,
-      new-reads.Learnt,
-      child-reads.Asked,
-      child-reads.Learnt,
-      cut-reads.Asked,
-      cut-reads.Learnt,
-      conjoin-below t,
-      conjoin.Post,
-      slot-for-reads.Asked,
-      slot-for-reads.Learnt,
-      advance-reads.Asked,
-      advance-reads.Learnt,
-      create-node-reads.Asked,
-      create-node-reads.Learnt,
-    )
+    (λ t. apply-ranges-lts.spec (apply-ranges-claims t)
     (apply-ranges-at t)
     apply-ranges.Post
     apply-ranges-Inv-loop
     apply-ranges-μ-loop
-    (apply-ranges-new-requires t)
+    (λ c κs. search needs)
     (apply-ranges-loop-holds t)
     (apply-ranges-child-requires t)
     (apply-ranges-child-requires-2 t)
     (apply-ranges-cut-requires t)
     (apply-ranges-cut-requires-2 t)
     (apply-ranges-conjoin-requires t)
-    (apply-ranges-slot-for-requires t)
-    (apply-ranges-advance-requires t)
+    (λ c κs. search needs)
+    (λ c κs. search needs)
     (apply-ranges-mul-t47 t)
     (apply-ranges-element-set-from-out t)
     (apply-ranges-add-len t)
@@ -1682,26 +414,13 @@ pub +apply+apply-ranges+conjoin-spec : {M : Type 1} → statement M
     (apply-ranges-same-length-9 t)
     (apply-ranges-same-length-10 t)
     (apply-ranges-returns-2 t))
-    λ t. conjoin-lts.spec (
-      opened-reads.Asked,
-      opened-reads.Learnt,
-      recall-reads.Asked,
-      recall-reads.Learnt,
-      first-variable-reads.Asked,
-      first-variable-reads.Learnt,
-      view-of-reads.Asked,
-      view-of-reads.Learnt,
-      apply-below t,
-      apply.Post,
-      remember-reads.Asked,
-      remember-reads.Learnt,
-    )
+    λ t. conjoin-lts.spec (conjoin-claims t)
     (conjoin-at t)
     conjoin.Post
-    (conjoin-opened-requires t)
+    (λ c κs. search needs)
     (conjoin-returns t)
     (conjoin-recall-requires t)
-    (conjoin-same-length t)
+    (λ c. search needs)
     (conjoin-returns-2 t)
     (conjoin-first-variable-requires t)
     (conjoin-view-of-requires t)

@@ -6,9 +6,6 @@ use Rattle.ids.proofs.Signs.{under-even, under-odd}
 use Rattle.ids.proofs.NodeId.negate.Statement.{statement}
 use Rattle.ids.proofs.NodeId.negate.Tie as tie
 
-not-requires : tie.Need-not-requires
-not-requires c κs = search needs
-
 returns : tie.Need-returns
 returns c = sym (under-even (c .before .before .args .parent .0) (c .before .before .args .self .0) (omega arith))
 
@@ -16,4 +13,4 @@ returns-2 : tie.Need-returns-2
 returns-2 c = c .not .ensures ∙ sym (under-odd (c .before .before .before .args .parent .0) (c .before .before .before .args .self .0) (omega arith))
 
 pub negate-spec : {M : Type 1} → statement M
-negate-spec = tie.close (tie.spec not-requires returns returns-2)
+negate-spec = tie.close (tie.spec (λ c κs. search needs) returns returns-2)

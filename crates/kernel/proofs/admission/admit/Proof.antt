@@ -6,9 +6,6 @@ use borrow.Author.Needs.{needs}
 use Rattle.kernel.proofs.admission.admit.Statement.{statement}
 use Rattle.kernel.proofs.admission.admit.Tie as tie
 
-check-requires : tie.Need-check-requires
-check-requires c κs = search needs
-
 returns : tie.Need-returns
 returns c = not-lent _ _ ((c .before .before .check .ensures)) ((c .if1 .taken))
 
@@ -19,4 +16,4 @@ returns-3 : tie.Need-returns-3
 returns-3 c = admits-it ((c .before .before .before .check .ensures)) ((c .before .if1 .left)) (not-false _ ((c .if2 .left)))
 
 pub admit-spec : {M : Type 1} → statement M
-admit-spec = tie.close (tie.spec check-requires returns returns-2 returns-3)
+admit-spec = tie.close (tie.spec (λ c κs. search needs) returns returns-2 returns-3)

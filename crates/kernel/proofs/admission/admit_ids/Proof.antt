@@ -10,14 +10,8 @@ use borrow.Author.Needs.{needs}
 use Rattle.kernel.proofs.admission.admit_ids.Statement.{statement}
 use Rattle.kernel.proofs.admission.admit_ids.Tie as tie
 
-mul-if1 : tie.Need-mul-if1
-mul-if1 c = search needs
-
 returns : tie.Need-returns
 returns c = ids-not-long _ _ (λ q. omega (arith, q))
-
-admit-requires : tie.Need-admit-requires
-admit-requires c κs = search needs
 
 returns-2 : tie.Need-returns-2
 returns-2 c = ids-refuse-table (omega arith) ((c .before .before .admit .ensures)) ((c .if2 .taken))
@@ -39,4 +33,4 @@ returns-5 c = ids-admit (omega arith) (admitted-lent asks-none ((c .before .befo
 pub admit-ids-spec : {M : Type 1} → statement M
 admit-ids-spec =
     tie.close
-    (tie.spec mul-if1 returns admit-requires returns-2 both-known-requires returns-3 returns-4 returns-5)
+    (tie.spec (λ c. search needs) returns (λ c κs. search needs) returns-2 both-known-requires returns-3 returns-4 returns-5)

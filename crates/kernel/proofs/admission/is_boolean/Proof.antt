@@ -7,12 +7,6 @@ use borrow.Author.Needs.{needs}
 use Rattle.kernel.proofs.admission.is_boolean.Statement.{statement}
 use Rattle.kernel.proofs.admission.is_boolean.Tie as tie
 
-is-range-requires : tie.Need-is-range-requires
-is-range-requires c κs = search needs
-
-is-variable-requires : tie.Need-is-variable-requires
-is-variable-requires c κs = search needs
-
 returns : tie.Need-returns
 returns c = decides-second (not-below (refuted ((c .before .before .is-range .ensures)) (not-true _ ((c .before .if1 .taken))))) ((c .is-variable .ensures))
 
@@ -20,4 +14,4 @@ returns-2 : tie.Need-returns-2
 returns-2 c = decides-first ((c .if1 .left)) (λ h. let l = proved ((c .before .is-range .ensures)) (not-false _ ((c .if1 .left))) in omega arith)
 
 pub is-boolean-spec : {M : Type 1} → statement M
-is-boolean-spec = tie.close (tie.spec is-range-requires is-variable-requires returns returns-2)
+is-boolean-spec = tie.close (tie.spec (λ c κs. search needs) (λ c κs. search needs) returns returns-2)

@@ -5,11 +5,8 @@ use borrow.Author.Needs.{needs}
 use Rattle.kernel.proofs.admission.is_variable.Statement.{statement}
 use Rattle.kernel.proofs.admission.is_variable.Tie as tie
 
-wide-requires : tie.Need-wide-requires
-wide-requires c κs = search needs
-
 returns : tie.Need-returns
 returns c = decides-below variables ((c .wide .ensures .0))
 
 pub is-variable-spec : {M : Type 1} → statement M
-is-variable-spec = tie.close (tie.spec wide-requires returns)
+is-variable-spec = tie.close (tie.spec (λ c κs. search needs) returns)

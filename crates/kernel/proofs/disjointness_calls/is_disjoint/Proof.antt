@@ -10,9 +10,6 @@ use borrow.Author.Needs.{needs}
 use Rattle.kernel.proofs.disjointness_calls.is_disjoint.Statement.{statement}
 use Rattle.kernel.proofs.disjointness_calls.is_disjoint.Tie as tie
 
-check-requires : tie.Need-check-requires
-check-requires c κs = search needs
-
 returns : tie.Need-returns
 returns c = check-says-no _ _ _ _ _ _ ((c .before .before .check .ensures)) ((c .if1 .taken))
 
@@ -25,9 +22,6 @@ returns-2 : tie.Need-returns-2
 returns-2 c =
     let p = check-passes _ _ _ _ ((c .before .before .before .before .check .ensures)) ((c .before .before .if1 .left)) in
     disjoint-3 (p .0) _ (p .1) (refuted ((c .before .both-known .ensures)) (not-true _ ((c .if2 .taken))))
-
-add-is-disjoint : tie.Need-add-is-disjoint
-add-is-disjoint c = search needs
 
 is-disjoint-requires : tie.Need-is-disjoint-requires
 is-disjoint-requires c κs =
@@ -44,10 +38,10 @@ pub is-disjoint-spec : {M : Type 1} → statement M
 is-disjoint-spec =
     tie.close
     (tie.spec
-    check-requires
+    (λ c κs. search needs)
     returns
     both-known-requires
     returns-2
-    add-is-disjoint
+    (λ c. search needs)
     is-disjoint-requires
     returns-3)

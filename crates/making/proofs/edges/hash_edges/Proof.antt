@@ -19,29 +19,11 @@ abbrev μ-loop : tie.MeasureT-loop
 loop-holds : tie.Need-loop-holds Inv-loop μ-loop
 loop-holds c = (omega arith, omega (arith, (c .pre .1)), sym (hash-none (c .args .v) (sign (c .args .lead .0)) (c .args .t3) (omega (arith, (c .pre .1)))))
 
-mul-e : tie.Need-mul-e Inv-loop μ-loop
-mul-e c = search needs
-
-element-copy-out-e : tie.Need-element-copy-out-e Inv-loop μ-loop
-element-copy-out-e c = search needs
-
-negate-requires : tie.Need-negate-requires Inv-loop μ-loop
-negate-requires c κs = search needs
-
-wide-requires : tie.Need-wide-requires Inv-loop μ-loop
-wide-requires c κs = search needs
-
 key-of-requires : tie.Need-key-of-requires Inv-loop μ-loop
 key-of-requires c κs = omega (arith, (c .before .before .before .before .before .pre .0 .most))
 
 mixed-requires : tie.Need-mixed-requires Inv-loop μ-loop
 mixed-requires c κs = ((c .before .before .before .before .before .loop .inv .1), (c .before .wide .ensures .1), let k = (c .key-of .ensures) ∙ key-is (c .before .before .before .before .before .before .args .v) (c .before .before .before .before .before .loop .j) (c .before .before .before .before .before .before .args .t3) in omega (arith, k, key-small (c .before .before .before .before .before .before .args .v) (c .before .before .before .before .before .loop .j) (c .before .before .before .before .before .before .args .t3) (λ l. (c .before .before .before .before .before .before .pre .2) (c .before .before .before .before .before .loop .j) l)))
-
-add-j : tie.Need-add-j Inv-loop μ-loop
-add-j c = search needs
-
-loop-less : tie.Need-loop-less Inv-loop μ-loop
-loop-less c = search needs
 
 loop-again : tie.Need-loop-again Inv-loop μ-loop
 loop-again c = (omega arith, (c .mixed .ensures .1), (c .mixed .ensures .0) ∙ mixed (c .before .before .before .before .before .before .loop .inv .2) ((c .before .before .wide .ensures .0) ∙ (c .before .before .before .negate .ensures)) ((c .before .key-of .ensures) ∙ key-is (c .before .before .before .before .before .before .before .args .v) (c .before .before .before .before .before .before .loop .j) (c .before .before .before .before .before .before .before .args .t3)) ∙ sym (hash-next (c .before .before .before .before .before .before .before .args .v) (sign (c .before .before .before .before .before .before .before .args .lead .0)) (c .before .before .before .before .before .before .before .args .t3) (c .before .before .before .before .before .before .loop .j)))
@@ -56,13 +38,13 @@ hash-edges-spec =
     Inv-loop
     μ-loop
     loop-holds
-    mul-e
-    element-copy-out-e
-    negate-requires
-    wide-requires
+    (λ c. search needs)
+    (λ c. search needs)
+    (λ c κs. search needs)
+    (λ c κs. search needs)
     key-of-requires
     mixed-requires
-    add-j
-    loop-less
+    (λ c. search needs)
+    (λ c. search needs)
     loop-again
     returns)

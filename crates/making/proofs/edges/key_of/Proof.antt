@@ -4,9 +4,6 @@ use borrow.Author.Needs.{needs}
 use Rattle.making.proofs.edges.key_of.Statement.{statement}
 use Rattle.making.proofs.edges.key_of.Tie as tie
 
-has-cut-requires : tie.Need-has-cut-requires
-has-cut-requires c κs = search needs
-
 returns : tie.Need-returns
 returns c = chosen _ _ (c .before .has-cut .ensures) (c .if1 .taken)
 
@@ -14,4 +11,4 @@ returns-2 : tie.Need-returns-2
 returns-2 c = other _ _ (c .before .has-cut .ensures) (c .if1 .left)
 
 pub key-of-spec : {M : Type 1} → statement M
-key-of-spec = tie.close (tie.spec has-cut-requires returns returns-2)
+key-of-spec = tie.close (tie.spec (λ c κs. search needs) returns returns-2)

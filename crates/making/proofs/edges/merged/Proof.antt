@@ -17,14 +17,8 @@ abbrev μ-loop : tie.MeasureT-loop
 loop-holds : tie.Need-loop-holds Inv-loop μ-loop
 loop-holds c = merging-none (c .pre) _
 
-mul-e : tie.Need-mul-e Inv-loop μ-loop
-mul-e c = search needs
-
 element-copy-out-e : tie.Need-element-copy-out-e Inv-loop μ-loop
 element-copy-out-e c = omega (arith, (c .before .before .pre .most), (c .before .loop .inv .size))
-
-slot-for-requires : tie.Need-slot-for-requires Inv-loop μ-loop
-slot-for-requires c κs = search needs
 
 mul-t11 : tie.Need-mul-t11 Inv-loop μ-loop
 mul-t11 c = omega (arith, (c .before .before .before .before .before .pre .most), slot-most (c .slot-for .ensures), (c .before .before .before .before .loop .inv .behind))
@@ -54,9 +48,9 @@ merged-spec =
     Inv-loop
     μ-loop
     loop-holds
-    mul-e
+    (λ c. search needs)
     element-copy-out-e
-    slot-for-requires
+    (λ c κs. search needs)
     mul-t11
     element-set-from-out
     add-len

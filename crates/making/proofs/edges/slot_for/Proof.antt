@@ -5,17 +5,8 @@ use borrow.Author.Needs.{needs}
 use Rattle.making.proofs.edges.slot_for.Statement.{statement}
 use Rattle.making.proofs.edges.slot_for.Tie as tie
 
-returns : tie.Need-returns
-returns c = search needs
-
-sub-result : tie.Need-sub-result
-sub-result c = search needs
-
 returns-2 : tie.Need-returns-2
 returns-2 c = (λ _ _. refl, λ n. absurd (n (omega (arith, (c .before .before .before .if1 .left))) (c .if2 .taken)))
 
-returns-3 : tie.Need-returns-3
-returns-3 c = search needs
-
 pub slot-for-spec : {M : Type 1} → statement M
-slot-for-spec = tie.close (tie.spec returns sub-result returns-2 returns-3)
+slot-for-spec = tie.close (tie.spec (λ c. search needs) (λ c. search needs) returns-2 (λ c. search needs))

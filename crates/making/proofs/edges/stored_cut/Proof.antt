@@ -8,9 +8,6 @@ use borrow.Author.Needs.{needs}
 use Rattle.making.proofs.edges.stored_cut.Statement.{statement}
 use Rattle.making.proofs.edges.stored_cut.Tie as tie
 
-has-cut-requires : tie.Need-has-cut-requires
-has-cut-requires c κs = search needs
-
 place-at-requires : tie.Need-place-at-requires
 place-at-requires c κs = omega (arith, (c .before .before .pre .1) (has-cut-inside (c .before .before .args .v) (c .before .before .args .j) (c .before .before .args .count) (c .before .has-cut .ensures) (c .if1 .taken)))
 
@@ -21,4 +18,4 @@ returns-2 : tie.Need-returns-2
 returns-2 c = other _ _ (c .before .has-cut .ensures) (c .if1 .left)
 
 pub stored-cut-spec : {M : Type 1} → statement M
-stored-cut-spec = tie.close (tie.spec has-cut-requires place-at-requires returns returns-2)
+stored-cut-spec = tie.close (tie.spec (λ c κs. search needs) place-at-requires returns returns-2)

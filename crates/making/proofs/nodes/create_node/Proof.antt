@@ -12,17 +12,11 @@ use borrow.Author.Needs.{needs}
 use Rattle.making.proofs.nodes.create_node.Statement.{statement}
 use Rattle.making.proofs.nodes.create_node.Tie as tie
 
-element-copy-out-first : tie.Need-element-copy-out-first
-element-copy-out-first c = search needs
-
 returns : tie.Need-returns
 returns c = dropped ((c .before .before .before .before .before .before .pre .0)) ((c .before .before .before .before .before .before .args .v)) ((c .before .before .before .before .before .before .args .t7)) (omega arith) _ refl
 
 hash-edges-requires : tie.Need-hash-edges-requires
 hash-edges-requires c κs = ((c .before .before .before .before .before .before .pre .1 .building), (c .before .before .before .before .before .before .pre .1 .known), cut-small ((c .before .before .before .before .before .before .args .v)) ((c .before .before .before .before .before .before .args .t7)) ((c .before .before .before .before .before .before .pre .1 .reduced)))
-
-scaled-requires : tie.Need-scaled-requires
-scaled-requires c κs = search needs
 
 find-requires : tie.Need-find-requires
 find-requires c κs = ((c .before .before .before .before .before .before .before .before .before .before .before .before .pre .0), (c .before .before .before .before .before .before .before .before .before .before .before .before .pre .1), (omega (arith, (c .before .before .before .before .before .before .before .before .before .before .before .before .pre .1 .building .some))), (c .before .before .before .before .scaled .ensures .0) ∙ ap (λ (h : ℕ). h * room ((c .before .before .before .before .before .before .before .before .before .before .before .before .args .nodes .now)) / 4294967296) ((c .before .before .before .before .before .hash-edges .ensures .0)), (c .before .before .before .before .scaled .ensures .1))
@@ -33,65 +27,17 @@ cast-t30 c = omega (arith, ref-small ((c .before .before .before .before .before
 mul-t31 : tie.Need-mul-t31
 mul-t31 c = omega (arith, ref-small ((c .before .before .before .before .before .before .before .before .before .before .before .before .before .before .pre .0)) ((c .before .before .before .before .before .before .before .before .before .before .before .before .before .before .args .v)) ((c .before .before .before .before .before .before .before .before .before .before .before .before .before .before .args .t7)) _ _ ((c .before .find .ensures)))
 
-negate-requires : tie.Need-negate-requires
-negate-requires c κs = search needs
-
-same-length : tie.Need-same-length
-same-length c = search needs
-
-same-length-2 : tie.Need-same-length-2
-same-length-2 c = search needs
-
-same-length-3 : tie.Need-same-length-3
-same-length-3 c = search needs
-
-same-length-4 : tie.Need-same-length-4
-same-length-4 c = search needs
-
 returns-2 : tie.Need-returns-2
 returns-2 c = found-one ((c .before .before .before .before .before .before .before .before .before .before .before .before .before .before .before .pre .0)) ((c .before .before .before .before .before .before .before .before .before .before .before .before .before .before .before .args .v)) ((c .before .before .before .before .before .before .before .before .before .before .before .before .before .before .before .args .t7)) (omega (arith, (c .before .before .before .before .before .before .before .before .before .before .before .before .before .before .before .pre .1 .building .some))) _ (omega arith) ((c .before .before .find .ensures)) _ ((c .negate .ensures))
 
 has-room-requires : tie.Need-has-room-requires
 has-room-requires c κs = (c .before .before .before .before .before .before .before .before .before .before .before .before .before .before .pre .0 .sound .fits, c .before .before .before .before .before .before .before .before .before .before .before .before .before .before .pre .0 .allowed .most-nodes, edges-inside (c .before .before .before .before .before .before .before .before .before .before .before .before .before .before .pre .0), c .before .before .before .before .before .before .before .before .before .before .before .before .before .before .pre .0 .allowed .most-edges, c .before .before .before .before .before .before .before .before .before .before .before .before .before .before .pre .1 .building .most)
 
-same-length-5 : tie.Need-same-length-5
-same-length-5 c = search needs
-
-same-length-6 : tie.Need-same-length-6
-same-length-6 c = search needs
-
-same-length-7 : tie.Need-same-length-7
-same-length-7 c = search needs
-
-same-length-8 : tie.Need-same-length-8
-same-length-8 c = search needs
-
 returns-3 : tie.Need-returns-3
 returns-3 c = no-room ((c .before .before .before .before .before .before .before .before .before .before .before .before .before .before .before .before .pre .0)) ((c .before .before .before .before .before .before .before .before .before .before .before .before .before .before .before .before .args .v)) ((c .before .before .before .before .before .before .before .before .before .before .before .before .before .before .before .before .args .t7)) (omega (arith, (c .before .before .before .before .before .before .before .before .before .before .before .before .before .before .before .before .pre .1 .building .some))) (let z = (c .before .before .before .find .ensures) in let y : (c .before .before .before .find .result) ≡ 0 = omega arith in sym z ∙ y) (refuted ((c .before .has-room .ensures)) (not-true _ ((c .if3 .taken)))) _
 
 add-requires : tie.Need-add-requires
 add-requires c κs = (let room-for = proved ((c .before .before .before .before .before .has-room .ensures)) (not-false _ ((c .before .before .before .before .if3 .left))) in ((c .before .before .before .before .before .before .before .before .before .before .before .before .before .before .before .before .before .before .before .before .pre .0), (c .before .before .before .before .before .before .before .before .before .before .before .before .before .before .before .before .before .before .before .before .pre .1), (omega (arith, (c .before .before .before .before .before .before .before .before .before .before .before .before .before .before .before .before .before .before .before .before .pre .1 .building .some))), refl, (c .before .before .before .before .before .before .before .before .before .before .before .before .scaled .ensures .0) ∙ ap (λ (h : ℕ). h * room ((c .before .before .before .before .before .before .before .before .before .before .before .before .before .before .before .before .before .before .before .before .args .nodes .now)) / 4294967296) ((c .before .before .before .before .before .before .before .before .before .before .before .before .before .hash-edges .ensures .0)), (c .before .before .before .before .before .before .before .before .before .before .before .before .scaled .ensures .1), room-for .0, room-for .1, (let z = (c .before .before .before .before .before .before .before .find .ensures) in let y : (c .before .before .before .before .before .before .before .find .result) ≡ 0 = omega arith in sym z ∙ y)))
-
-cast-t45 : tie.Need-cast-t45
-cast-t45 c = search needs
-
-mul-t46 : tie.Need-mul-t46
-mul-t46 c = search needs
-
-negate-requires-2 : tie.Need-negate-requires-2
-negate-requires-2 c κs = search needs
-
-same-length-9 : tie.Need-same-length-9
-same-length-9 c = search needs
-
-same-length-10 : tie.Need-same-length-10
-same-length-10 c = search needs
-
-same-length-11 : tie.Need-same-length-11
-same-length-11 c = search needs
-
-same-length-12 : tie.Need-same-length-12
-same-length-12 c = search needs
 
 returns-4 : tie.Need-returns-4
 returns-4 c = added-one ((c .before .before .before .before .before .before .before .before .before .before .before .before .before .before .before .before .before .before .before .before .before .before .before .before .before .before .before .before .before .before .pre .0)) ((c .before .before .before .before .before .before .before .before .before .before .before .before .before .before .before .before .before .before .before .before .before .before .before .before .before .before .before .before .before .before .args .v)) ((c .before .before .before .before .before .before .before .before .before .before .before .before .before .before .before .before .before .before .before .before .before .before .before .before .before .before .before .before .before .before .args .t7)) (omega (arith, (c .before .before .before .before .before .before .before .before .before .before .before .before .before .before .before .before .before .before .before .before .before .before .before .before .before .before .before .before .before .before .pre .1 .building .some))) (let z = (c .before .before .before .before .before .before .before .before .before .before .before .before .before .before .before .before .before .find .ensures) in let y : (c .before .before .before .before .before .before .before .before .before .before .before .before .before .before .before .before .before .find .result) ≡ 0 = omega arith in sym z ∙ y) ((c .before .before .before .before .before .before .before .before .before .add .ensures)) _ ((c .negate2 .ensures))
@@ -100,31 +46,31 @@ pub create-node-spec : {M : Type 1} → statement M
 create-node-spec =
     tie.close
     (tie.spec
-    element-copy-out-first
+    (λ c. search needs)
     returns
     hash-edges-requires
-    scaled-requires
+    (λ c κs. search needs)
     find-requires
     cast-t30
     mul-t31
-    negate-requires
-    same-length
-    same-length-2
-    same-length-3
-    same-length-4
+    (λ c κs. search needs)
+    (λ c. search needs)
+    (λ c. search needs)
+    (λ c. search needs)
+    (λ c. search needs)
     returns-2
     has-room-requires
-    same-length-5
-    same-length-6
-    same-length-7
-    same-length-8
+    (λ c. search needs)
+    (λ c. search needs)
+    (λ c. search needs)
+    (λ c. search needs)
     returns-3
     add-requires
-    cast-t45
-    mul-t46
-    negate-requires-2
-    same-length-9
-    same-length-10
-    same-length-11
-    same-length-12
+    (λ c. search needs)
+    (λ c. search needs)
+    (λ c κs. search needs)
+    (λ c. search needs)
+    (λ c. search needs)
+    (λ c. search needs)
+    (λ c. search needs)
     returns-4)

@@ -22,17 +22,11 @@ word-requires c κs = omega (arith, (c .before .before .before .pre .0 .allowed 
 loop-holds : tie.Need-loop-holds Inv-loop μ-loop
 loop-holds c = λ u z. look-first (now (c .before .before .before .before .args .nodes)) (now (c .before .before .before .before .args .children)) (now (c .before .before .before .before .args .cuts)) (now (c .before .before .before .before .args .index)) u (c .before .before .before .before .args .v) (sign (c .before .before .before .before .args .lead .0)) (c .before .before .before .before .args .es) (c .before .before .before .before .args .bucket) z (c .before .before .before .before .pre .3) (c .before .before .before .before .pre .4) (c .word .ensures .0)
 
-sub-same-node : tie.Need-sub-same-node Inv-loop μ-loop
-sub-same-node c = search needs
-
 same-node-requires : tie.Need-same-node-requires Inv-loop μ-loop
 same-node-requires c κs = let w = ((c .before .loop .inv) (c .before .before .before .before .before .before .args .head .used) (c .before .before .before .before .before .before .pre .0 .sound)) .within in (omega (arith, (c .loop-test .taken), (c .before .before .before .before .before .before .pre .0 .allowed .whole), (c .before .before .before .before .before .before .pre .0 .sound .fits)), (c .before .before .before .before .before .before .pre .0 .allowed .cut-each), (c .before .before .before .before .before .before .pre .0 .sound .rules) ((c .before .loop .at) - 1) (omega (arith, (c .loop-test .taken))), (c .before .before .before .before .before .before .pre .1 .building))
 
 returns : tie.Need-returns Inv-loop μ-loop
 returns c = look-found (now (c .before .before .before .before .before .before .before .before .args .nodes)) (now (c .before .before .before .before .before .before .before .before .args .children)) (now (c .before .before .before .before .before .before .before .before .args .cuts)) (now (c .before .before .before .before .before .before .before .before .args .index)) (c .before .before .before .before .before .before .before .before .args .head .used) (c .before .before .before .before .before .before .before .before .args .v) (sign (c .before .before .before .before .before .before .before .before .args .lead .0)) (c .before .before .before .before .before .before .before .before .args .es) (c .before .before .before .before .before .before .before .before .args .bucket) (c .before .before .before .before .before .before .before .before .pre .0 .sound) (c .before .before .before .before .before .before .before .before .pre .3) (c .before .before .before .before .before .before .before .before .pre .2) (c .before .before .before .before .before .before .before .before .pre .1 .reduced) ((c .before .before .before .loop .inv) (c .before .before .before .before .before .before .before .before .args .head .used) (c .before .before .before .before .before .before .before .before .pre .0 .sound)) (c .before .before .loop-test .taken) (laws.proved (c .before .same-node .ensures) (c .if1 .taken))
-
-sub-word : tie.Need-sub-word Inv-loop μ-loop
-sub-word c = search needs
 
 add-word : tie.Need-add-word Inv-loop μ-loop
 add-word c = let w = ((c .before .before .before .loop .inv) (c .before .before .before .before .before .before .before .before .args .head .used) (c .before .before .before .before .before .before .before .before .pre .0 .sound)) .within in omega (arith, (c .before .before .loop-test .taken), (c .before .before .before .before .before .before .before .before .pre .0 .allowed .most-nodes), (c .before .before .before .before .before .before .before .before .pre .0 .sound .fits))
@@ -57,10 +51,10 @@ find-spec =
     μ-loop
     word-requires
     loop-holds
-    sub-same-node
+    (λ c. search needs)
     same-node-requires
     returns
-    sub-word
+    (λ c. search needs)
     add-word
     word-requires-2
     loop-less

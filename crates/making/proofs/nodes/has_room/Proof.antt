@@ -5,14 +5,8 @@ use Rattle.table.specs.Deciding.{holds, fails}
 use Rattle.making.proofs.nodes.has_room.Statement.{statement}
 use Rattle.making.proofs.nodes.has_room.Tie as tie
 
-add-if1 : tie.Need-add-if1
-add-if1 c = search needs
-
 returns : tie.Need-returns
 returns c = fails (λ x. omega (arith, x .0))
-
-add-if2 : tie.Need-add-if2
-add-if2 c = search needs
 
 returns-2 : tie.Need-returns-2
 returns-2 c = fails (λ x. omega (arith, x .1))
@@ -21,4 +15,4 @@ returns-3 : tie.Need-returns-3
 returns-3 c = holds (omega arith, omega arith)
 
 pub has-room-spec : {M : Type 1} → statement M
-has-room-spec = tie.close (tie.spec add-if1 returns add-if2 returns-2 returns-3)
+has-room-spec = tie.close (tie.spec (λ c. search needs) returns (λ c. search needs) returns-2 returns-3)

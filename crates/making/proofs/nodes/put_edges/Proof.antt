@@ -21,20 +21,11 @@ abbrev μ-loop : tie.MeasureT-loop
 loop-holds : tie.Need-loop-holds Inv-loop μ-loop
 loop-holds c = (omega arith, refl, refl, written-none _ _ _ _ _)
 
-mul-edge : tie.Need-mul-edge Inv-loop μ-loop
-mul-edge c = search needs
-
 element-copy-out-edge : tie.Need-element-copy-out-edge Inv-loop μ-loop
 element-copy-out-edge c = omega (arith, (c .before .before .before .pre .0 .size), (c .before .before .before .pre .0 .most))
 
-negate-requires : tie.Need-negate-requires Inv-loop μ-loop
-negate-requires c κs = search needs
-
 add-children : tie.Need-add-children Inv-loop μ-loop
 add-children c = omega (arith, (c .before .before .before .before .before .pre))
-
-mul-children : tie.Need-mul-children Inv-loop μ-loop
-mul-children c = search needs
 
 slice-write-children : tie.Need-slice-write-children Inv-loop μ-loop
 slice-write-children c = omega (arith, (c .before .before .before .before .before .pre))
@@ -44,9 +35,6 @@ stored-cut-requires c κs = (omega (arith, c .before .before .before .before .be
 
 add-z : tie.Need-add-z Inv-loop μ-loop
 add-z c = omega (arith, (c .before .before .before .before .before .before .pre))
-
-mul-z : tie.Need-mul-z Inv-loop μ-loop
-mul-z c = search needs
 
 slice-set-from-z : tie.Need-slice-set-from-z Inv-loop μ-loop
 slice-set-from-z c = omega (arith, (c .before .before .before .before .before .before .pre))
@@ -76,15 +64,15 @@ put-edges-spec =
     Inv-loop
     μ-loop
     loop-holds
-    mul-edge
+    (λ c. search needs)
     element-copy-out-edge
-    negate-requires
+    (λ c κs. search needs)
     add-children
-    mul-children
+    (λ c. search needs)
     slice-write-children
     stored-cut-requires
     add-z
-    mul-z
+    (λ c. search needs)
     slice-set-from-z
     add-j
     loop-less

@@ -39,23 +39,11 @@ first-of-requires c κs = (c .before .before .before .before .before .before .pr
 loop-holds : tie.Need-loop-holds Inv-loop μ-loop
 loop-holds c = (omega arith, λ k l. absurd (omega arith), λ k l. absurd (omega arith))
 
-mul-e : tie.Need-mul-e Inv-loop μ-loop
-mul-e c = search needs
-
-element-copy-out-e : tie.Need-element-copy-out-e Inv-loop μ-loop
-element-copy-out-e c = search needs
-
-negate-requires : tie.Need-negate-requires Inv-loop μ-loop
-negate-requires c κs = search needs
-
 add-child-at : tie.Need-add-child-at Inv-loop μ-loop
 add-child-at c = omega (arith, (c .before .before .before .before .first-of .ensures .1), (c .before .before .before .before .before .before .before .before .before .before .before .pre .3 .most))
 
 child-at-requires : tie.Need-child-at-requires Inv-loop μ-loop
 child-at-requires c κs = omega (arith, (c .before .before .before .before .first-of .ensures .0), (c .before .before .before .before .before .before .count-of .ensures .0), (c .before .before .before .before .before .if2 .left), (c .before .before .before .before .before .before .before .before .before .before .before .pre .2 .inside))
-
-wide-requires : tie.Need-wide-requires Inv-loop μ-loop
-wide-requires c κs = search needs
 
 returns-3 : tie.Need-returns-3 Inv-loop μ-loop
 returns-3 c = fails (λ p. (c .if3 .taken) ((c .before .before .child-at .ensures .0) ∙ kid-at (now (c .before .before .before .before .before .before .before .before .before .before .before .before .before .before .args .children)) (c .before .before .before .before .before .before .loop .j) (c .before .before .before .before .before .before .before .first-of .ensures .0) ∙ p .child (c .before .before .before .before .before .before .loop .j) (c .before .before .before .before .before .loop-test .taken) ∙ sym ((c .before .wide .ensures .0) ∙ (c .before .before .before .negate .ensures))))
@@ -71,12 +59,6 @@ key-of-requires c κs = omega (arith, (c .before .before .before .before .before
 
 returns-4 : tie.Need-returns-4 Inv-loop μ-loop
 returns-4 c = fails (λ p. (c .if4 .taken) ((c .before .before .level-at .ensures .0) ∙ cut-at (now (c .before .before .before .before .before .before .before .before .before .before .before .before .before .before .before .before .before .args .cuts)) (c .before .before .before .before .before .before .before .before .before .loop .j) (c .before .before .before .before .before .before .before .before .before .before .first-of .ensures .0) ∙ p .cut (c .before .before .before .before .before .before .before .before .before .loop .j) (c .before .before .before .before .before .before .before .before .loop-test .taken) ∙ sym ((c .before .key-of .ensures) ∙ key-is (c .before .before .before .before .before .before .before .before .before .before .before .before .before .before .before .before .before .args .v) (c .before .before .before .before .before .before .before .before .before .loop .j) (c .before .before .before .before .before .before .before .before .before .before .before .before .before .before .before .before .before .args .t7))))
-
-add-j : tie.Need-add-j Inv-loop μ-loop
-add-j c = search needs
-
-loop-less : tie.Need-loop-less Inv-loop μ-loop
-loop-less c = search needs
 
 loop-again : tie.Need-loop-again Inv-loop μ-loop
 loop-again c = (omega arith, λ k l. ⊎-elim (λ q. rw q (sym (c .before .before .before .before .before .child-at .ensures .0) ∙ (c .before .before .before .if3 .left) ∙ (c .before .before .before .before .wide .ensures .0) ∙ (c .before .before .before .before .before .before .negate .ensures))) (λ h. (c .before .before .before .before .before .before .before .before .before .loop .inv .1) k h) (laws.last k (c .before .before .before .before .before .before .before .before .before .loop .j) l), λ k l. ⊎-elim (λ q. rw q (sym (c .before .before .level-at .ensures .0) ∙ (c .if4 .left) ∙ (c .before .key-of .ensures) ∙ key-is (c .before .before .before .before .before .before .before .before .before .before .before .before .before .before .before .before .before .args .v) (c .before .before .before .before .before .before .before .before .before .loop .j) (c .before .before .before .before .before .before .before .before .before .before .before .before .before .before .before .before .before .args .t7))) (λ h. (c .before .before .before .before .before .before .before .before .before .loop .inv .2) k h) (laws.last k (c .before .before .before .before .before .before .before .before .before .loop .j) l))
@@ -96,18 +78,18 @@ same-node-spec =
     returns-2
     first-of-requires
     loop-holds
-    mul-e
-    element-copy-out-e
-    negate-requires
+    (λ c. search needs)
+    (λ c. search needs)
+    (λ c κs. search needs)
     add-child-at
     child-at-requires
-    wide-requires
+    (λ c κs. search needs)
     returns-3
     add-level-at
     level-at-requires
     key-of-requires
     returns-4
-    add-j
-    loop-less
+    (λ c. search needs)
+    (λ c. search needs)
     loop-again
     returns-5)

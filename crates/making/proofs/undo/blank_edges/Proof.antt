@@ -22,17 +22,11 @@ loop-holds c = (omega arith, refl, refl, written-none _ _ _ _ _)
 add-children : tie.Need-add-children Inv-loop μ-loop
 add-children c = omega (arith, (c .before .before .pre))
 
-mul-children : tie.Need-mul-children Inv-loop μ-loop
-mul-children c = search needs
-
 slice-write-children : tie.Need-slice-write-children Inv-loop μ-loop
 slice-write-children c = omega (arith, (c .before .before .pre))
 
 add-cuts : tie.Need-add-cuts Inv-loop μ-loop
 add-cuts c = omega (arith, (c .before .before .pre))
-
-mul-cuts : tie.Need-mul-cuts Inv-loop μ-loop
-mul-cuts c = search needs
 
 slice-set-of-cuts : tie.Need-slice-set-of-cuts Inv-loop μ-loop
 slice-set-of-cuts c = omega (arith, (c .before .before .pre))
@@ -63,10 +57,10 @@ blank-edges-spec =
     μ-loop
     loop-holds
     add-children
-    mul-children
+    (λ c. search needs)
     slice-write-children
     add-cuts
-    mul-cuts
+    (λ c. search needs)
     slice-set-of-cuts
     add-j
     loop-less

@@ -5,29 +5,11 @@ use Rattle.ranges.proofs.Ends.{Beside, included, excluded}
 use Rattle.ranges.proofs.bounds.first_of.Statement.{statement}
 use Rattle.ranges.proofs.bounds.first_of.Tie as tie
 
-enum-told : tie.Need-enum-told
-enum-told c = search needs
-
-enum-known-lower : tie.Need-enum-known-lower
-enum-known-lower c = search needs
-
-position-of-key-requires : tie.Need-position-of-key-requires
-position-of-key-requires c κs = search needs
-
-enum-known-lower-2 : tie.Need-enum-known-lower-2
-enum-known-lower-2 c = search needs
-
-position-of-key-requires-2 : tie.Need-position-of-key-requires-2
-position-of-key-requires-2 c κs = search needs
-
 beside : (c : tie.After-position-of-key2) → Beside (c .before .before .before .before .args .lower) (c .position-of-key2 .result)
 beside c = excluded (c .before .before .before .before .good .0) (c .before .before .lower2 .given .1) (c .position-of-key2 .ensures)
 
 add-result : tie.Need-add-result
 add-result c = omega (arith, beside c)
-
-returns : tie.Need-returns
-returns c = search needs
 
 returns-2 : tie.Need-returns-2
 returns-2 c = included (c .before .before .before .before .good .0) (c .before .before .lower .given .1) (c .position-of-key .ensures) .first
@@ -36,4 +18,4 @@ returns-3 : tie.Need-returns-3
 returns-3 c = omega (arith, beside c)
 
 pub first-of-spec : {M : Type 1} → statement M
-first-of-spec = tie.close (tie.spec enum-told enum-known-lower position-of-key-requires enum-known-lower-2 position-of-key-requires-2 add-result returns returns-2 returns-3)
+first-of-spec = tie.close (tie.spec (λ c. search needs) (λ c. search needs) (λ c κs. search needs) (λ c. search needs) (λ c κs. search needs) add-result (λ c. search needs) returns-2 returns-3)

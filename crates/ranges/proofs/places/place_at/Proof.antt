@@ -4,9 +4,6 @@ use Rattle.ranges.proofs.Machine.{lowered-fits, lowered-value}
 use Rattle.ranges.proofs.places.place_at.Statement.{statement}
 use Rattle.ranges.proofs.places.place_at.Tie as tie
 
-cast-result : tie.Need-cast-result
-cast-result c = search needs
-
 add-result : tie.Need-add-result
 add-result c = lowered-fits (c .args .position) (c .pre)
 
@@ -14,4 +11,4 @@ returns : tie.Need-returns
 returns c = lowered-value (c .args .position) (c .pre)
 
 pub place-at-spec : {M : Type 1} → statement M
-place-at-spec = tie.close (tie.spec cast-result add-result returns)
+place-at-spec = tie.close (tie.spec (λ c. search needs) add-result returns)

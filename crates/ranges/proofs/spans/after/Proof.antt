@@ -9,11 +9,8 @@ use Rattle.ranges.proofs.spans.after.Tie as tie
 returns : tie.Need-returns
 returns c q h = holds-is _ q (suc (c .before .args .last)) q (omega arith)
 
-add-t3 : tie.Need-add-t3
-add-t3 c = search needs
-
 returns-2 : tie.Need-returns-2
 returns-2 c q h = holds-is _ q (suc (c .before .args .last)) q (omega arith)
 
 pub after-spec : {M : Type 1} → statement M
-after-spec = tie.close (tie.spec returns add-t3 returns-2)
+after-spec = tie.close (tie.spec returns (λ c. search needs) returns-2)

@@ -9,11 +9,8 @@ use Rattle.ranges.proofs.spans.before.Tie as tie
 returns : tie.Need-returns
 returns c q = holds-is _ q (suc q) (c .before .args .first) (omega arith)
 
-sub-t3 : tie.Need-sub-t3
-sub-t3 c = search needs
-
 returns-2 : tie.Need-returns-2
 returns-2 c q = holds-is _ q (suc q) (c .before .args .first) (omega arith)
 
 pub before-spec : {M : Type 1} → statement M
-before-spec = tie.close (tie.spec returns sub-t3 returns-2)
+before-spec = tie.close (tie.spec returns (λ c. search needs) returns-2)

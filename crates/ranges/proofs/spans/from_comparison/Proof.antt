@@ -5,42 +5,6 @@ use borrow.Author.Needs.{needs}
 use Rattle.ranges.proofs.spans.from_comparison.Statement.{statement}
 use Rattle.ranges.proofs.spans.from_comparison.Tie as tie
 
-enum-told : tie.Need-enum-told
-enum-told c = search needs
-
-inside-requires : tie.Need-inside-requires
-inside-requires c κs = search needs
-
-enum-told-2 : tie.Need-enum-told-2
-enum-told-2 c = search needs
-
-from-bounds-requires : tie.Need-from-bounds-requires
-from-bounds-requires c κs = search needs
-
-enum-told-3 : tie.Need-enum-told-3
-enum-told-3 c = search needs
-
-inside-requires-2 : tie.Need-inside-requires-2
-inside-requires-2 c κs = search needs
-
-enum-told-4 : tie.Need-enum-told-4
-enum-told-4 c = search needs
-
-inside-requires-3 : tie.Need-inside-requires-3
-inside-requires-3 c κs = search needs
-
-enum-told-5 : tie.Need-enum-told-5
-enum-told-5 c = search needs
-
-inside-requires-4 : tie.Need-inside-requires-4
-inside-requires-4 c κs = search needs
-
-enum-told-6 : tie.Need-enum-told-6
-enum-told-6 c = search needs
-
-inside-requires-5 : tie.Need-inside-requires-5
-inside-requires-5 c κs = search needs
-
 returns : tie.Need-returns
 returns c = compared (c .before .before .before .fits .key) (c .before .enum-told .given .1) (c .inside .ensures .0) (c .inside .ensures .1)
 
@@ -63,18 +27,18 @@ pub from-comparison-spec : {M : Type 1} → statement M
 from-comparison-spec =
     tie.close
     (tie.spec
-    enum-told
-    inside-requires
-    enum-told-2
-    from-bounds-requires
-    enum-told-3
-    inside-requires-2
-    enum-told-4
-    inside-requires-3
-    enum-told-5
-    inside-requires-4
-    enum-told-6
-    inside-requires-5
+    (λ c. search needs)
+    (λ c κs. search needs)
+    (λ c. search needs)
+    (λ c κs. search needs)
+    (λ c. search needs)
+    (λ c κs. search needs)
+    (λ c. search needs)
+    (λ c κs. search needs)
+    (λ c. search needs)
+    (λ c κs. search needs)
+    (λ c. search needs)
+    (λ c κs. search needs)
     returns
     returns-2
     returns-3

@@ -55,15 +55,9 @@ cast-result c = cast (c .before .args .n) (c .before .fits .n) (distance-read (c
 add-result : tie.Need-add-result
 add-result c = rw (distance-read (c .before .args .n) (c .before .fits .n) (c .if1 .taken)) (record { fits = omega (arith, c .before .fits .n .sfits) })
 
-returns : tie.Need-returns
-returns c = search needs
-
 cast-result-2 : tie.Need-cast-result-2
 cast-result-2 c = not-below-cast (c .before .args .n) (c .before .fits .n) (c .if1 .left)
 
-returns-2 : tie.Need-returns-2
-returns-2 c = search needs
-
 pub size-of-spec : {M : Type 1} → statement M
 size-of-spec =
-    tie.close (tie.spec sub-result cast-result add-result returns cast-result-2 returns-2)
+    tie.close (tie.spec sub-result cast-result add-result (λ c. search needs) cast-result-2 (λ c. search needs))

@@ -11,45 +11,18 @@ Inv-loop words n₀ n = n ≤ length words
 abbrev μ-loop : tie.MeasureT-loop
 μ-loop words n₀ n = n
 
-loop-holds : tie.Need-loop-holds Inv-loop μ-loop
-loop-holds c = search needs
-
-sub-if1 : tie.Need-sub-if1 Inv-loop μ-loop
-sub-if1 c = search needs
-
-mul-if1 : tie.Need-mul-if1 Inv-loop μ-loop
-mul-if1 c = search needs
-
-shared-slice-read-if1 : tie.Need-shared-slice-read-if1 Inv-loop μ-loop
-shared-slice-read-if1 c = search needs
-
-sub-n : tie.Need-sub-n Inv-loop μ-loop
-sub-n c = search needs
-
-loop-less : tie.Need-loop-less Inv-loop μ-loop
-loop-less c = search needs
-
-loop-again : tie.Need-loop-again Inv-loop μ-loop
-loop-again c = search needs
-
-returns : tie.Need-returns Inv-loop μ-loop
-returns c = search needs
-
-returns-2 : tie.Need-returns-2 Inv-loop μ-loop
-returns-2 c = search needs
-
 pub used-words-spec : {M : Type 1} → statement M
 used-words-spec =
     tie.close
     (tie.spec
     Inv-loop
     μ-loop
-    loop-holds
-    sub-if1
-    mul-if1
-    shared-slice-read-if1
-    sub-n
-    loop-less
-    loop-again
-    returns
-    returns-2)
+    (λ c. search needs)
+    (λ c. search needs)
+    (λ c. search needs)
+    (λ c. search needs)
+    (λ c. search needs)
+    (λ c. search needs)
+    (λ c. search needs)
+    (λ c. search needs)
+    (λ c. search needs))

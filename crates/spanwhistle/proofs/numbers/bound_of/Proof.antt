@@ -16,9 +16,6 @@ excludes zero key f g = absurd (f refl)
 excludes (suc zero) key f g = absurd (g refl)
 excludes (suc (suc k)) key f g = refl
 
-returns : tie.Need-returns
-returns c = search needs
-
 returns-2 : tie.Need-returns-2
 returns-2 c = rw (toZ-ofZ w32 _ (c .before .before .fits .key), c .if2 .taken) refl
 
@@ -26,4 +23,4 @@ returns-3 : tie.Need-returns-3
 returns-3 c = rw (toZ-ofZ w32 _ (c .before .before .fits .key)) (excludes _ _ (c .before .if1 .left) (c .if2 .left))
 
 pub bound-of-spec : {M : Type 1} → statement M
-bound-of-spec = tie.close (tie.spec returns returns-2 returns-3)
+bound-of-spec = tie.close (tie.spec (λ c. search needs) returns-2 returns-3)

@@ -7,9 +7,6 @@ use Rattle.table.proofs.Hearing.{checks-it}
 use Rattle.table.proofs.calls.check.Statement.{statement}
 use Rattle.table.proofs.calls.check.Tie as tie
 
-lengths-allowed-requires : tie.Need-lengths-allowed-requires
-lengths-allowed-requires c κs = search needs
-
 returns : tie.Need-returns
 returns c = checked-1 (refuted ((c .before .lengths-allowed .ensures)) (not-true _ ((c .if1 .taken))))
 
@@ -23,4 +20,4 @@ returns-3 : tie.Need-returns-3
 returns-3 c = checks-it _ _ _ _ (proved ((c .before .before .before .before .lengths-allowed .ensures)) (not-false _ ((c .before .before .before .if1 .left)))) ((c .before .before .judge .ensures)) (not-false _ ((c .if2 .left)))
 
 pub check-spec : {M : Type 1} → statement M
-check-spec = tie.close (tie.spec lengths-allowed-requires returns judge-requires returns-2 returns-3)
+check-spec = tie.close (tie.spec (λ c κs. search needs) returns judge-requires returns-2 returns-3)

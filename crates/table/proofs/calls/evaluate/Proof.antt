@@ -11,9 +11,6 @@ use Rattle.table.proofs.calls.evaluate.Tie as tie
 returns : tie.Need-returns
 returns c = heard-1 (λ x. (c .if1 .taken) (x .1))
 
-check-requires : tie.Need-check-requires
-check-requires c κs = search needs
-
 returns-2 : tie.Need-returns-2
 returns-2 c = check-refuses _ _ _ _ _ _ _ ((c .before .before .before .if1 .left)) ((c .before .before .check .ensures)) ((c .if2 .taken))
 
@@ -22,24 +19,15 @@ cast-is-known c =
     let p = check-passes _ _ _ _ ((c .before .before .before .check .ensures)) ((c .before .if2 .left)) in
     record { fits = omega (arith, p .1 .fits, p .0 .most-nodes) }
 
-is-known-requires : tie.Need-is-known-requires
-is-known-requires c κs = search needs
-
 returns-3 : tie.Need-returns-3
 returns-3 c =
     let p = check-passes _ _ _ _ ((c .before .before .before .before .before .check .ensures)) ((c .before .before .before .if2 .left)) in
     heard-3 (p .0, (c .before .before .before .before .before .before .if1 .left)) _ (p .1) (unknown _ _ (c .before .is-known .ensures) (not-true _ (c .if3 .taken)))
 
-places-ok-requires : tie.Need-places-ok-requires
-places-ok-requires c κs = search needs
-
 returns-4 : tie.Need-returns-4
 returns-4 c =
     let p = check-passes _ _ _ _ ((c .before .before .before .before .before .before .before .check .ensures)) ((c .before .before .before .before .before .if2 .left)) in
     heard-5 (p .0, (c .before .before .before .before .before .before .before .before .if1 .left)) _ (p .1) (known _ _ (c .before .before .before .is-known .ensures) (not-false _ (c .before .before .if3 .left))) (refuted ((c .before .places-ok .ensures)) (not-true _ ((c .if4 .taken))))
-
-wide-requires : tie.Need-wide-requires
-wide-requires c κs = search needs
 
 reads-requires : tie.Need-reads-requires
 reads-requires c κs =
@@ -56,13 +44,13 @@ evaluate-spec =
     tie.close
     (tie.spec
     returns
-    check-requires
+    (λ c κs. search needs)
     returns-2
     cast-is-known
-    is-known-requires
+    (λ c κs. search needs)
     returns-3
-    places-ok-requires
+    (λ c κs. search needs)
     returns-4
-    wide-requires
+    (λ c κs. search needs)
     reads-requires
     returns-5)

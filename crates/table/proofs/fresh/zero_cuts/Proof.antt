@@ -18,15 +18,6 @@ abbrev μ-loop : tie.MeasureT-loop
 loop-holds : tie.Need-loop-holds Inv-loop μ-loop
 loop-holds c = (omega arith, refl, λ j l. absurd (omega arith))
 
-mul-cuts : tie.Need-mul-cuts Inv-loop μ-loop
-mul-cuts c = search needs
-
-slice-set-of-cuts : tie.Need-slice-set-of-cuts Inv-loop μ-loop
-slice-set-of-cuts c = search needs
-
-add-i : tie.Need-add-i Inv-loop μ-loop
-add-i c = search needs
-
 loop-less : tie.Need-loop-less Inv-loop μ-loop
 loop-less c = simp length-set (omega arith)
 
@@ -40,4 +31,4 @@ returns : tie.Need-returns Inv-loop μ-loop
 returns c = filled-all (pos 0) ((c .before .loop .cuts)) _ ((c .before .loop .inv .1)) (λ j l. (c .before .loop .inv .2) j (omega (arith, (c .before .loop .inv .1))))
 
 pub zero-cuts-spec : {M : Type 1} → statement M
-zero-cuts-spec = tie.close (tie.spec Inv-loop μ-loop loop-holds mul-cuts slice-set-of-cuts add-i loop-less loop-again same-length returns)
+zero-cuts-spec = tie.close (tie.spec Inv-loop μ-loop loop-holds (λ c. search needs) (λ c. search needs) (λ c. search needs) loop-less loop-again same-length returns)

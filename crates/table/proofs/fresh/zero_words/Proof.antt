@@ -17,15 +17,6 @@ abbrev μ-loop : tie.MeasureT-loop
 loop-holds : tie.Need-loop-holds Inv-loop μ-loop
 loop-holds c = (omega arith, refl, λ j l. absurd (omega arith))
 
-mul-words : tie.Need-mul-words Inv-loop μ-loop
-mul-words c = search needs
-
-slice-write-words : tie.Need-slice-write-words Inv-loop μ-loop
-slice-write-words c = search needs
-
-add-i : tie.Need-add-i Inv-loop μ-loop
-add-i c = search needs
-
 loop-less : tie.Need-loop-less Inv-loop μ-loop
 loop-less c = simp length-set (omega arith)
 
@@ -39,4 +30,4 @@ returns : tie.Need-returns Inv-loop μ-loop
 returns c = filled-all 0 ((c .before .loop .words)) _ ((c .before .loop .inv .1)) (λ j l. (c .before .loop .inv .2) j (omega (arith, (c .before .loop .inv .1))))
 
 pub zero-words-spec : {M : Type 1} → statement M
-zero-words-spec = tie.close (tie.spec Inv-loop μ-loop loop-holds mul-words slice-write-words add-i loop-less loop-again same-length returns)
+zero-words-spec = tie.close (tie.spec Inv-loop μ-loop loop-holds (λ c. search needs) (λ c. search needs) (λ c. search needs) loop-less loop-again same-length returns)

@@ -21,26 +21,14 @@ Inv-loop nodes children cuts index n rooms at₀ at = (rooms ≡ length nodes / 
 abbrev μ-loop : tie.MeasureT-loop
 μ-loop nodes children cuts index n rooms at₀ at = at
 
-add-word : tie.Need-add-word Inv-loop μ-loop
-add-word c = search needs
-
-word-requires : tie.Need-word-requires Inv-loop μ-loop
-word-requires c κs = search needs
-
 loop-holds : tie.Need-loop-holds Inv-loop μ-loop
 loop-holds c = (refl, record { within = omega (arith, (c .before .before .before .before .pre .4) ((c .before .before .before .before .args .n)) (omega arith), (c .word .ensures .0)); on = λ k l s. subst (λ (x : ℕ). Down (now ((c .before .before .before .before .args .index))) (room (now ((c .before .before .before .before .args .nodes)))) x (suc k)) (sym ((c .word .ensures .0))) ((c .before .before .before .before .pre .5) k l (same-bucket _ _ _ k ((c .before .before .before .before .args .n)) s)) })
-
-sub-same : tie.Need-sub-same Inv-loop μ-loop
-sub-same c = search needs
 
 same-requires : tie.Need-same-requires Inv-loop μ-loop
 same-requires c κs = let w = (c .before .loop .inv .1 .within) in (omega arith, (c .before .before .before .before .before .before .pre .0), (c .before .before .before .before .before .before .pre .1), (c .before .before .before .before .before .before .pre .3) ((c .before .loop .at) - 1) (omega arith), (c .before .before .before .before .before .before .pre .3) ((c .before .before .before .before .before .before .args .n)) (omega arith))
 
 returns : tie.Need-returns Inv-loop μ-loop
 returns c = let w = (c .before .before .before .loop .inv .1 .within) in fails (λ p. p ((c .before .before .before .loop .at) - 1) (omega arith) (laws.proved ((c .before .same .ensures)) ((c .if1 .taken))))
-
-sub-word : tie.Need-sub-word Inv-loop μ-loop
-sub-word c = search needs
 
 add-word-2 : tie.Need-add-word-2 Inv-loop μ-loop
 add-word-2 c = let w = (c .before .before .before .loop .inv .1 .within) in omega arith
@@ -67,13 +55,13 @@ alone-spec =
     (tie.spec
     Inv-loop
     μ-loop
-    add-word
-    word-requires
+    (λ c. search needs)
+    (λ c κs. search needs)
     loop-holds
-    sub-same
+    (λ c. search needs)
     same-requires
     returns
-    sub-word
+    (λ c. search needs)
     add-word-2
     word-requires-2
     loop-less

@@ -18,27 +18,6 @@ abbrev μ-loop : tie.MeasureT-loop
 loop-holds : tie.Need-loop-holds Inv-loop μ-loop
 loop-holds c = (omega arith, omega arith, sym (laws.hash-none (now ((c .before .args .children))) (now ((c .before .args .cuts))) ((c .before .args .v)) ((c .before .args .e)) (omega arith)))
 
-add-child-at : tie.Need-add-child-at Inv-loop μ-loop
-add-child-at c = search needs
-
-child-at-requires : tie.Need-child-at-requires Inv-loop μ-loop
-child-at-requires c κs = search needs
-
-add-level-at : tie.Need-add-level-at Inv-loop μ-loop
-add-level-at c = search needs
-
-level-at-requires : tie.Need-level-at-requires Inv-loop μ-loop
-level-at-requires c κs = search needs
-
-mixed-requires : tie.Need-mixed-requires Inv-loop μ-loop
-mixed-requires c κs = search needs
-
-add-j : tie.Need-add-j Inv-loop μ-loop
-add-j c = search needs
-
-loop-less : tie.Need-loop-less Inv-loop μ-loop
-loop-less c = search needs
-
 loop-again : tie.Need-loop-again Inv-loop μ-loop
 loop-again c = (omega arith, (c .mixed .ensures .1), (c .mixed .ensures .0) ∙ (laws.mixed ((c .before .before .before .before .loop .inv .2)) ((c .before .before .child-at .ensures .0)) ((c .before .level-at .ensures .0)) ∙ sym (laws.hash-next (now ((c .before .before .before .before .before .before .args .children))) (now ((c .before .before .before .before .before .before .args .cuts))) ((c .before .before .before .before .before .before .args .v)) ((c .before .before .before .before .before .before .args .e)) ((c .before .before .before .before .loop .j)))))
 
@@ -52,12 +31,12 @@ hash-of-spec =
     Inv-loop
     μ-loop
     loop-holds
-    add-child-at
-    child-at-requires
-    add-level-at
-    level-at-requires
-    mixed-requires
-    add-j
-    loop-less
+    (λ c. search needs)
+    (λ c κs. search needs)
+    (λ c. search needs)
+    (λ c κs. search needs)
+    (λ c κs. search needs)
+    (λ c. search needs)
+    (λ c. search needs)
     loop-again
     returns)

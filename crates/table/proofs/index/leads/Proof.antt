@@ -19,20 +19,8 @@ abbrev μ-loop : tie.MeasureT-loop
 loop-holds : tie.Need-loop-holds Inv-loop μ-loop
 loop-holds c = (omega arith, λ d. d, λ d. d)
 
-sub-word : tie.Need-sub-word Inv-loop μ-loop
-sub-word c = search needs
-
-add-word : tie.Need-add-word Inv-loop μ-loop
-add-word c = search needs
-
-word-requires : tie.Need-word-requires Inv-loop μ-loop
-word-requires c κs = search needs
-
 returns : tie.Need-returns Inv-loop μ-loop
 returns c = fails (λ p. omega (arith, laws.down-step ((c .before .before .loop-test .taken)) ((c .before .before .before .loop .inv .2) p) .0, (c .before .word .ensures .0)))
-
-loop-less : tie.Need-loop-less Inv-loop μ-loop
-loop-less c = search needs
 
 loop-again : tie.Need-loop-again Inv-loop μ-loop
 loop-again c = let e = sym ((c .before .word .ensures .0)) in (
@@ -54,11 +42,11 @@ leads-spec =
     Inv-loop
     μ-loop
     loop-holds
-    sub-word
-    add-word
-    word-requires
+    (λ c. search needs)
+    (λ c. search needs)
+    (λ c κs. search needs)
     returns
-    loop-less
+    (λ c. search needs)
     loop-again
     returns-2
     returns-3)

@@ -7,29 +7,11 @@ use Rattle.table.proofs.Laws as laws
 use Rattle.table.proofs.index.same.Statement.{statement}
 use Rattle.table.proofs.index.same.Tie as tie
 
-var-of-requires : tie.Need-var-of-requires
-var-of-requires c κs = search needs
-
-var-of-requires-2 : tie.Need-var-of-requires-2
-var-of-requires-2 c κs = search needs
-
 returns : tie.Need-returns
 returns c = fails (λ p. (c .if1 .taken) ((c .before .before .var-of .ensures .0) ∙ (p .variable ∙ sym ((c .before .var-of2 .ensures .0)))))
 
-count-of-requires : tie.Need-count-of-requires
-count-of-requires c κs = search needs
-
-count-of-requires-2 : tie.Need-count-of-requires-2
-count-of-requires-2 c κs = search needs
-
 returns-2 : tie.Need-returns-2
 returns-2 c = fails (λ p. (c .if2 .taken) ((c .before .count-of2 .ensures .0) ∙ (p .count ∙ sym ((c .before .before .count-of .ensures .0)))))
-
-first-of-requires : tie.Need-first-of-requires
-first-of-requires c κs = search needs
-
-first-of-requires-2 : tie.Need-first-of-requires-2
-first-of-requires-2 c κs = search needs
 
 same-edges-requires : tie.Need-same-edges-requires
 same-edges-requires c κs = let r = (c .before .before .before .before .before .before .before .before .before .before .pre .3) in let s = (c .before .before .before .before .before .before .before .before .before .before .pre .4) in let a = (c .before .first-of .ensures .0) in let b = (c .first-of2 .ensures .0) in let d = (c .before .before .before .before .count-of .ensures .0) in let e = (c .before .before .before .count-of2 .ensures .0) in let f = (c .before .before .if2 .left) in (omega (arith, s .most), omega (arith, r .inside), omega (arith, s .inside), (c .before .before .before .before .before .before .before .before .before .before .pre .2))
@@ -41,13 +23,13 @@ pub same-spec : {M : Type 1} → statement M
 same-spec =
     tie.close
     (tie.spec
-    var-of-requires
-    var-of-requires-2
+    (λ c κs. search needs)
+    (λ c κs. search needs)
     returns
-    count-of-requires
-    count-of-requires-2
+    (λ c κs. search needs)
+    (λ c κs. search needs)
     returns-2
-    first-of-requires
-    first-of-requires-2
+    (λ c κs. search needs)
+    (λ c κs. search needs)
     same-edges-requires
     returns-3)

@@ -20,38 +20,11 @@ abbrev μ-loop : tie.MeasureT-loop
 loop-holds : tie.Need-loop-holds Inv-loop μ-loop
 loop-holds c = (omega arith, λ k l. absurd (omega arith), λ k l. absurd (omega arith))
 
-add-child-at : tie.Need-add-child-at Inv-loop μ-loop
-add-child-at c = search needs
-
-child-at-requires : tie.Need-child-at-requires Inv-loop μ-loop
-child-at-requires c κs = search needs
-
-add-child-at-2 : tie.Need-add-child-at-2 Inv-loop μ-loop
-add-child-at-2 c = search needs
-
-child-at-requires-2 : tie.Need-child-at-requires-2 Inv-loop μ-loop
-child-at-requires-2 c κs = search needs
-
 returns : tie.Need-returns Inv-loop μ-loop
 returns c = fails (λ p. (c .if1 .taken) ((c .before .before .child-at .ensures .0) ∙ (p .child ((c .before .before .before .before .loop .j)) ((c .before .before .before .loop-test .taken)) ∙ sym ((c .before .child-at2 .ensures .0)))))
 
-add-equal-at : tie.Need-add-equal-at Inv-loop μ-loop
-add-equal-at c = search needs
-
-add-equal-at-2 : tie.Need-add-equal-at-2 Inv-loop μ-loop
-add-equal-at-2 c = search needs
-
-equal-at-requires : tie.Need-equal-at-requires Inv-loop μ-loop
-equal-at-requires c κs = search needs
-
 returns-2 : tie.Need-returns-2 Inv-loop μ-loop
 returns-2 c = fails (λ p. laws.refuted ((c .before .equal-at .ensures)) (not-true _ ((c .if2 .taken))) (p .cut ((c .before .before .before .before .before .before .loop .j)) ((c .before .before .before .before .before .loop-test .taken))))
-
-add-j : tie.Need-add-j Inv-loop μ-loop
-add-j c = search needs
-
-loop-less : tie.Need-loop-less Inv-loop μ-loop
-loop-less c = search needs
 
 loop-again : tie.Need-loop-again Inv-loop μ-loop
 loop-again c = (omega arith, λ k l. ⊎-elim (λ q. rw q (sym ((c .before .before .before .before .child-at .ensures .0)) ∙ ((c .before .before .if1 .left) ∙ (c .before .before .before .child-at2 .ensures .0)))) (λ h. (c .before .before .before .before .before .before .loop .inv .1) k h) (laws.last k ((c .before .before .before .before .before .before .loop .j)) l), λ k l. ⊎-elim (λ q. rw q (laws.proved ((c .before .equal-at .ensures)) (not-false _ ((c .if2 .left))))) (λ h. (c .before .before .before .before .before .before .loop .inv .2) k h) (laws.last k ((c .before .before .before .before .before .before .loop .j)) l))
@@ -66,16 +39,16 @@ same-edges-spec =
     Inv-loop
     μ-loop
     loop-holds
-    add-child-at
-    child-at-requires
-    add-child-at-2
-    child-at-requires-2
+    (λ c. search needs)
+    (λ c κs. search needs)
+    (λ c. search needs)
+    (λ c κs. search needs)
     returns
-    add-equal-at
-    add-equal-at-2
-    equal-at-requires
+    (λ c. search needs)
+    (λ c. search needs)
+    (λ c κs. search needs)
     returns-2
-    add-j
-    loop-less
+    (λ c. search needs)
+    (λ c. search needs)
     loop-again
     returns-3)

@@ -17,41 +17,14 @@ Inv-loop children cuts e count p end j₀ j = (end ≡ count - 1) × (j ≤ end)
 abbrev μ-loop : tie.MeasureT-loop
 μ-loop children cuts e count p end j₀ j = end - j
 
-sub-end : tie.Need-sub-end Inv-loop μ-loop
-sub-end c = search needs
-
 loop-holds : tie.Need-loop-holds Inv-loop μ-loop
 loop-holds c = (refl, omega arith, sym (rest-none (now ((c .before .args .children))) (now ((c .before .args .cuts))) ((c .before .args .p)) ((c .before .args .e)) ((c .before .args .count) - 1)))
-
-add-level-at : tie.Need-add-level-at Inv-loop μ-loop
-add-level-at c = search needs
-
-level-at-requires : tie.Need-level-at-requires Inv-loop μ-loop
-level-at-requires c κs = search needs
-
-add-child-at : tie.Need-add-child-at Inv-loop μ-loop
-add-child-at c = search needs
-
-child-at-requires : tie.Need-child-at-requires Inv-loop μ-loop
-child-at-requires c κs = search needs
 
 returns : tie.Need-returns Inv-loop μ-loop
 returns c = let k : (c .before .before .before .before .before .before .args .p) < level (cutAt (now ((c .before .before .before .before .before .before .args .cuts))) ((c .before .before .before .before .before .before .args .e) + (c .before .before .before .before .loop .j))) = omega (arith, (c .before .before .level-at .ensures .0), (c .before .if1 .taken)) in record { right = (c .child-at .ensures .0) ∙ sym ((c .before .before .before .before .loop .inv .2) ∙ rest-stop (now ((c .before .before .before .before .before .before .args .children))) (now ((c .before .before .before .before .before .before .args .cuts))) ((c .before .before .before .before .before .before .args .p)) ((c .before .before .before .before .before .before .args .e)) ((c .before .before .before .before .before .before .args .count) - 1) ((c .before .before .before .before .loop .j)) ((c .before .before .before .loop-test .taken)) k); among = λ b all. rw ((c .child-at .ensures .0)) (all ((c .before .before .before .before .loop .j)) (omega arith)) }
 
-add-j : tie.Need-add-j Inv-loop μ-loop
-add-j c = search needs
-
-loop-less : tie.Need-loop-less Inv-loop μ-loop
-loop-less c = search needs
-
 loop-again : tie.Need-loop-again Inv-loop μ-loop
 loop-again c = let k : level (cutAt (now ((c .before .before .before .before .before .args .cuts))) ((c .before .before .before .before .before .args .e) + (c .before .before .before .loop .j))) ≤ (c .before .before .before .before .before .args .p) = omega (arith, (c .before .level-at .ensures .0), (c .if1 .left)) in ((c .before .before .before .loop .inv .0), omega arith, (c .before .before .before .loop .inv .2) ∙ rest-pass (now ((c .before .before .before .before .before .args .children))) (now ((c .before .before .before .before .before .args .cuts))) ((c .before .before .before .before .before .args .p)) ((c .before .before .before .before .before .args .e)) ((c .before .before .before .before .before .args .count) - 1) ((c .before .before .before .loop .j)) ((c .before .before .loop-test .taken)) k)
-
-add-child-at-2 : tie.Need-add-child-at-2 Inv-loop μ-loop
-add-child-at-2 c = search needs
-
-child-at-requires-2 : tie.Need-child-at-requires-2 Inv-loop μ-loop
-child-at-requires-2 c κs = search needs
 
 returns-2 : tie.Need-returns-2 Inv-loop μ-loop
 returns-2 c = record { right = (c .child-at2 .ensures .0) ∙ sym ((c .before .before .loop .inv .2) ∙ rest-end (now ((c .before .before .before .before .args .children))) (now ((c .before .before .before .before .args .cuts))) ((c .before .before .before .before .args .p)) ((c .before .before .before .before .args .e)) ((c .before .before .before .before .args .count) - 1) ((c .before .before .loop .j)) (omega arith)); among = λ b all. rw ((c .child-at2 .ensures .0)) (all ((c .before .before .before .before .args .count) - 1) (omega arith)) }
@@ -62,16 +35,16 @@ choose-spec =
     (tie.spec
     Inv-loop
     μ-loop
-    sub-end
+    (λ c. search needs)
     loop-holds
-    add-level-at
-    level-at-requires
-    add-child-at
-    child-at-requires
+    (λ c. search needs)
+    (λ c κs. search needs)
+    (λ c. search needs)
+    (λ c κs. search needs)
     returns
-    add-j
-    loop-less
+    (λ c. search needs)
+    (λ c. search needs)
     loop-again
-    add-child-at-2
-    child-at-requires-2
+    (λ c. search needs)
+    (λ c κs. search needs)
     returns-2)

@@ -13,18 +13,6 @@ use Rattle.table.proofs.Scan.{next-range, next-high, next-low, next-at,
 use Rattle.table.proofs.read.next_of.Statement.{statement}
 use Rattle.table.proofs.read.next_of.Tie as tie
 
-var-of-requires : tie.Need-var-of-requires
-var-of-requires c κs = search needs
-
-first-of-requires : tie.Need-first-of-requires
-first-of-requires c κs = search needs
-
-count-of-requires : tie.Need-count-of-requires
-count-of-requires c κs = search needs
-
-level-at-requires : tie.Need-level-at-requires
-level-at-requires c κs = search needs
-
 choose-requires : tie.Need-choose-requires
 choose-requires c κs = let r = (c .before .before .before .before .before .before .before .pre .3) in let k = (c .before .count-of .ensures .0) in let f = (c .before .before .before .first-of .ensures .0) in (omega (arith, r .many), omega (arith, r .most), omega (arith, r .inside), (c .before .before .before .before .before .before .before .pre .1))
 
@@ -34,9 +22,6 @@ returns c = let r = (c .before .before .before .before .before .before .before .
       right = (c .choose .ensures .right) ∙ (ap (select (edgesFrom (now ((c .before .before .before .before .before .before .before .before .args .children))) (now ((c .before .before .before .before .before .before .before .before .args .cuts))) ((c .before .before .before .before .first-of .result)) ((c .before .before .count-of .result) - 1))) ((c .before .level-at .ensures .0)) ∙ (sym (next-range (now ((c .before .before .before .before .before .before .before .before .args .children))) (now ((c .before .before .before .before .before .before .before .before .args .cuts))) (now ((c .before .before .before .before .before .before .before .before .args .places))) ((c .before .before .before .before .before .before .before .before .args .bools)) ((c .before .before .before .before .before .var-of .result)) ((c .before .before .before .before .first-of .result)) ((c .before .before .count-of .result)) ((c .before .before .before .if1 .taken))) ∙ next-at (now ((c .before .before .before .before .before .before .before .before .args .children))) (now ((c .before .before .before .before .before .before .before .before .args .cuts))) (now ((c .before .before .before .before .before .before .before .before .args .places))) ((c .before .before .before .before .before .before .before .before .args .bools)) (spots (now ((c .before .before .before .before .before .before .before .before .args .places))) ((c .before .before .before .before .before .before .before .before .args .bools))) v f k));
       earlier = (c .choose .ensures .among) ((c .before .before .before .before .before .before .before .before .args .n) * 2 + 2) (λ j l. kid-earlier (laws.kids-at (sym v) (sym f) (sym k) (r .edges)) j l);
     }
-
-shr-b : tie.Need-shr-b
-shr-b c = search needs
 
 child-at-requires : tie.Need-child-at-requires
 child-at-requires c κs = let r = (c .before .before .before .before .before .before .pre .3) in let f = (c .before .before .first-of .ensures .0) in omega (arith, r .inside, r .many)
@@ -65,13 +50,13 @@ pub next-of-spec : {M : Type 1} → statement M
 next-of-spec =
     tie.close
     (tie.spec
-    var-of-requires
-    first-of-requires
-    count-of-requires
-    level-at-requires
+    (λ c κs. search needs)
+    (λ c κs. search needs)
+    (λ c κs. search needs)
+    (λ c κs. search needs)
     choose-requires
     returns
-    shr-b
+    (λ c. search needs)
     child-at-requires
     returns-2
     add-child-at

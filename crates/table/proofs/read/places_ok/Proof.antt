@@ -22,17 +22,8 @@ abbrev μ-loop : tie.MeasureT-loop
 loop-holds : tie.Need-loop-holds Inv-loop μ-loop
 loop-holds c = (omega arith, λ k l. absurd (omega arith))
 
-place-at-requires : tie.Need-place-at-requires Inv-loop μ-loop
-place-at-requires c κs = search needs
-
 returns : tie.Need-returns Inv-loop μ-loop
 returns c = fails (λ p. laws.refuted ((c .before .place-at .ensures)) (not-true _ ((c .if1 .taken))) (p ((c .before .before .before .loop .v)) ((c .before .before .loop-test .taken))))
-
-add-v : tie.Need-add-v Inv-loop μ-loop
-add-v c = search needs
-
-loop-less : tie.Need-loop-less Inv-loop μ-loop
-loop-less c = search needs
 
 loop-again : tie.Need-loop-again Inv-loop μ-loop
 loop-again c = (omega arith, λ k l. ⊎-elim (λ q. subst (λ (i : ℕ). Place (cutAt (now ((c .before .before .before .before .args .places))) i)) (sym q) (laws.proved ((c .before .place-at .ensures)) (not-false _ ((c .if1 .left))))) (λ h. (c .before .before .before .loop .inv .1) k h) (laws.last k ((c .before .before .before .loop .v)) l))
@@ -47,9 +38,9 @@ places-ok-spec =
     Inv-loop
     μ-loop
     loop-holds
-    place-at-requires
+    (λ c κs. search needs)
     returns
-    add-v
-    loop-less
+    (λ c. search needs)
+    (λ c. search needs)
     loop-again
     returns-2)

@@ -21,9 +21,6 @@ abbrev μ-loop : tie.MeasureT-loop
 loop-holds : tie.Need-loop-holds Inv-loop μ-loop
 loop-holds c = ((c .before .before .pre .5), refl)
 
-wide-requires : tie.Need-wide-requires Inv-loop μ-loop
-wide-requires c κs = search needs
-
 sub-next-of : tie.Need-sub-next-of Inv-loop μ-loop
 sub-next-of c = omega (arith, (c .wide .ensures .0))
 
@@ -33,9 +30,6 @@ next-of-requires c κs = (omega (arith, (c .wide .ensures .0)), (c .before .befo
 cast-t14 : tie.Need-cast-t14 Inv-loop μ-loop
 cast-t14 c = record { fits = omega (arith, (c .next-of .ensures .earlier), (c .before .wide .ensures .0), (c .before .before .before .before .before .before .before .pre .0), (c .before .before .before .before .before .before .before .pre .1), (c .before .before .before .before .loop .inv .0)) }
 
-negate-requires : tie.Need-negate-requires Inv-loop μ-loop
-negate-requires c κs = search needs
-
 loop-less : tie.Need-loop-less Inv-loop μ-loop
 loop-less c = omega (arith, (c .before .next-of .ensures .earlier), (c .before .before .wide .ensures .0), ap (λ x. x / 2) ((c .negate .ensures)), ref-under (sign ((c .before .before .before .before .before .loop .at .0))) ((c .before .next-of .result)), (c .before .before .before .if1 .taken))
 
@@ -44,9 +38,6 @@ loop-again c = (
   omega (arith, (c .before .next-of .ensures .earlier), (c .before .before .wide .ensures .0), ap (λ x. x / 2) ((c .negate .ensures)), ref-under (sign ((c .before .before .before .before .before .loop .at .0))) ((c .before .next-of .result)), (c .before .before .before .before .before .loop .inv .0)),
   (c .before .before .before .before .before .loop .inv .1) ∙ step _ _ _ ((c .before .before .wide .ensures .0)) ((c .before .before .before .if1 .taken)) (omega (arith, (c .before .before .before .before .before .loop .inv .0))) ((c .before .next-of .ensures)) ((c .negate .ensures)),
 )
-
-is-true-requires : tie.Need-is-true-requires Inv-loop μ-loop
-is-true-requires c κs = search needs
 
 returns : tie.Need-returns Inv-loop μ-loop
 returns c = (c .is-true .ensures) ∙ sym ((c .before .before .before .loop .inv .1) ∙ value-terminal _ _ _ _ _ _ (omega (arith, (c .before .if1 .left))))
@@ -58,12 +49,12 @@ reads-spec =
     Inv-loop
     μ-loop
     loop-holds
-    wide-requires
+    (λ c κs. search needs)
     sub-next-of
     next-of-requires
     cast-t14
-    negate-requires
+    (λ c κs. search needs)
     loop-less
     loop-again
-    is-true-requires
+    (λ c κs. search needs)
     returns)

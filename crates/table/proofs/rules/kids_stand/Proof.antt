@@ -19,12 +19,6 @@ Inv-loop nodes children n v e count last₀ j₀ last j = (1 ≤ j) × (j ≤ co
 abbrev μ-loop : tie.MeasureT-loop
 μ-loop nodes children n v e count last₀ j₀ last j = count - j
 
-child-at-requires : tie.Need-child-at-requires Inv-loop μ-loop
-child-at-requires c κs = search needs
-
-child-stands-requires : tie.Need-child-stands-requires Inv-loop μ-loop
-child-stands-requires c κs = search needs
-
 returns : tie.Need-returns Inv-loop μ-loop
 returns c = fails (λ p. laws.refuted ((c .before .child-stands .ensures)) (not-true _ ((c .if1 .taken))) (subst (Stands (now ((c .before .before .before .before .before .args .nodes))) ((c .before .before .before .before .before .args .n)) ((c .before .before .before .before .before .args .v))) (laws.at (now ((c .before .before .before .before .before .args .children))) ((c .before .before .before .before .before .args .e) + 0) ((c .before .before .before .before .before .args .e)) (omega arith) ∙ sym ((c .before .before .child-at .ensures .0))) (p .stand 0 (omega arith))))
 
@@ -37,26 +31,11 @@ loop-holds c = (
   λ k l. absurd (omega arith),
 )
 
-add-child-at : tie.Need-add-child-at Inv-loop μ-loop
-add-child-at c = search needs
-
-child-at-requires-2 : tie.Need-child-at-requires-2 Inv-loop μ-loop
-child-at-requires-2 c κs = search needs
-
 returns-2 : tie.Need-returns-2 Inv-loop μ-loop
 returns-2 c = fails (λ p. let i = (c .before .before .before .loop .j) - 1 in p .differ i (omega arith) (laws.at (now ((c .before .before .before .before .before .before .before .before .before .args .children))) ((c .before .before .before .before .before .before .before .before .before .args .e) + (i + 1)) ((c .before .before .before .before .before .before .before .before .before .args .e) + (c .before .before .before .loop .j)) (omega arith) ∙ (sym ((c .before .child-at2 .ensures .0)) ∙ ((c .if2 .taken) ∙ (c .before .before .before .loop .inv .2) i (omega arith)))))
 
-child-stands-requires-2 : tie.Need-child-stands-requires-2 Inv-loop μ-loop
-child-stands-requires-2 c κs = search needs
-
 returns-3 : tie.Need-returns-3 Inv-loop μ-loop
 returns-3 c = fails (λ p. laws.refuted ((c .before .child-stands2 .ensures)) (not-true _ ((c .if3 .taken))) (subst (Stands (now ((c .before .before .before .before .before .before .before .before .before .before .before .args .nodes))) ((c .before .before .before .before .before .before .before .before .before .before .before .args .n)) ((c .before .before .before .before .before .before .before .before .before .before .before .args .v))) (sym ((c .before .before .before .child-at2 .ensures .0))) (p .stand ((c .before .before .before .before .before .loop .j)) (omega arith))))
-
-add-j : tie.Need-add-j Inv-loop μ-loop
-add-j c = search needs
-
-loop-less : tie.Need-loop-less Inv-loop μ-loop
-loop-less c = search needs
 
 loop-again : tie.Need-loop-again Inv-loop μ-loop
 loop-again c = (
@@ -76,16 +55,16 @@ kids-stand-spec =
     (tie.spec
     Inv-loop
     μ-loop
-    child-at-requires
-    child-stands-requires
+    (λ c κs. search needs)
+    (λ c κs. search needs)
     returns
     loop-holds
-    add-child-at
-    child-at-requires-2
+    (λ c. search needs)
+    (λ c κs. search needs)
     returns-2
-    child-stands-requires-2
+    (λ c κs. search needs)
     returns-3
-    add-j
-    loop-less
+    (λ c. search needs)
+    (λ c. search needs)
     loop-again
     returns-4)

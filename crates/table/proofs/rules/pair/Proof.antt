@@ -8,20 +8,11 @@ use Rattle.table.proofs.Laws as laws
 use Rattle.table.proofs.rules.pair.Statement.{statement}
 use Rattle.table.proofs.rules.pair.Tie as tie
 
-kids-stand-requires : tie.Need-kids-stand-requires
-kids-stand-requires c κs = search needs
-
 returns : tie.Need-returns
 returns c = record { decides = fails (λ p. laws.refuted ((c .before .kids-stand .ensures)) (not-true _ ((c .if1 .taken))) (p .0)); hashed = λ q. absurd (laws.clash refl q); small = omega arith }
 
-cuts-blank-requires : tie.Need-cuts-blank-requires
-cuts-blank-requires c κs = search needs
-
 returns-2 : tie.Need-returns-2
 returns-2 c = record { decides = fails (λ p. laws.refuted ((c .before .cuts-blank .ensures)) (not-true _ ((c .if2 .taken))) (p .1)); hashed = λ q. absurd (laws.clash refl q); small = omega arith }
-
-hash-of-requires : tie.Need-hash-of-requires
-hash-of-requires c κs = search needs
 
 returns-3 : tie.Need-returns-3
 returns-3 c = record {
@@ -31,4 +22,4 @@ returns-3 c = record {
 }
 
 pub pair-spec : {M : Type 1} → statement M
-pair-spec = tie.close (tie.spec kids-stand-requires returns cuts-blank-requires returns-2 hash-of-requires returns-3)
+pair-spec = tie.close (tie.spec (λ c κs. search needs) returns (λ c κs. search needs) returns-2 (λ c κs. search needs) returns-3)

@@ -21,15 +21,6 @@ Inv-loop nodes children cuts n v e count end last₀ h₀ low₀ j₀ last h low
 abbrev μ-loop : tie.MeasureT-loop
 μ-loop nodes children cuts n v e count end last₀ h₀ low₀ j₀ last h low j = end - j
 
-sub-end : tie.Need-sub-end Inv-loop μ-loop
-sub-end c = search needs
-
-child-at-requires : tie.Need-child-at-requires Inv-loop μ-loop
-child-at-requires c κs = search needs
-
-child-stands-requires : tie.Need-child-stands-requires Inv-loop μ-loop
-child-stands-requires c κs = search needs
-
 returns : tie.Need-returns Inv-loop μ-loop
 returns c = record { decides = fails (λ p. laws.refuted ((c .before .child-stands .ensures)) (not-true _ ((c .if1 .taken))) (subst (Stands (now ((c .before .before .before .before .before .args .nodes))) ((c .before .before .before .before .before .args .n)) ((c .before .before .before .before .before .args .v))) (laws.at (now ((c .before .before .before .before .before .args .children))) ((c .before .before .before .before .before .args .e) + 0) ((c .before .before .before .before .before .args .e)) (omega arith) ∙ sym ((c .before .before .child-at .ensures .0))) (p .0 .stand 0 (omega arith)))); hashed = λ q. absurd (laws.clash refl q); small = omega arith }
 
@@ -47,41 +38,14 @@ loop-holds c = (
   λ k l. absurd (omega arith),
 )
 
-add-level-at : tie.Need-add-level-at Inv-loop μ-loop
-add-level-at c = search needs
-
-level-at-requires : tie.Need-level-at-requires Inv-loop μ-loop
-level-at-requires c κs = search needs
-
 returns-2 : tie.Need-returns-2 Inv-loop μ-loop
 returns-2 c = record { decides = fails (λ p. laws.above ((c .before .before .before .loop .inv .4)) ((c .before .level-at .ensures .0)) ((c .if2 .taken)) (p .1 .rise ((c .before .before .before .loop .j)) (omega arith))); hashed = λ q. absurd (laws.clash refl q); small = omega arith }
-
-add-child-at : tie.Need-add-child-at Inv-loop μ-loop
-add-child-at c = search needs
-
-add-child-at-2 : tie.Need-add-child-at-2 Inv-loop μ-loop
-add-child-at-2 c = search needs
-
-child-at-requires-2 : tie.Need-child-at-requires-2 Inv-loop μ-loop
-child-at-requires-2 c κs = search needs
 
 returns-3 : tie.Need-returns-3 Inv-loop μ-loop
 returns-3 c = record { decides = fails (λ p. p .0 .differ ((c .before .before .before .before .before .loop .j)) (omega arith) (sym ((c .before .child-at2 .ensures .0)) ∙ ((c .if3 .taken) ∙ (c .before .before .before .before .before .loop .inv .2)))); hashed = λ q. absurd (laws.clash refl q); small = omega arith }
 
-child-stands-requires-2 : tie.Need-child-stands-requires-2 Inv-loop μ-loop
-child-stands-requires-2 c κs = search needs
-
 returns-4 : tie.Need-returns-4 Inv-loop μ-loop
 returns-4 c = record { decides = fails (λ p. laws.refuted ((c .before .child-stands2 .ensures)) (not-true _ ((c .if4 .taken))) (subst (Stands (now ((c .before .before .before .before .before .before .before .before .before .before .before .before .before .args .nodes))) ((c .before .before .before .before .before .before .before .before .before .before .before .before .before .args .n)) ((c .before .before .before .before .before .before .before .before .before .before .before .before .before .args .v))) (sym ((c .before .before .before .child-at2 .ensures .0))) (p .0 .stand ((c .before .before .before .before .before .before .before .loop .j) + 1) (omega arith)))); hashed = λ q. absurd (laws.clash refl q); small = omega arith }
-
-mixed-requires : tie.Need-mixed-requires Inv-loop μ-loop
-mixed-requires c κs = search needs
-
-add-j : tie.Need-add-j Inv-loop μ-loop
-add-j c = search needs
-
-loop-less : tie.Need-loop-less Inv-loop μ-loop
-loop-less c = search needs
 
 loop-again : tie.Need-loop-again Inv-loop μ-loop
 loop-again c = (
@@ -97,17 +61,8 @@ loop-again c = (
   λ k l. ⊎-elim (λ x. rw x (λ q. (c .before .before .before .if3 .left) ((c .before .before .before .before .child-at2 .ensures .0) ∙ (q ∙ sym ((c .before .before .before .before .before .before .before .before .loop .inv .2)))))) (λ h. (c .before .before .before .before .before .before .before .before .loop .inv .9) k h) (laws.last k ((c .before .before .before .before .before .before .before .before .loop .j)) l),
 )
 
-add-blank-at : tie.Need-add-blank-at Inv-loop μ-loop
-add-blank-at c = search needs
-
-blank-at-requires : tie.Need-blank-at-requires Inv-loop μ-loop
-blank-at-requires c κs = search needs
-
 returns-5 : tie.Need-returns-5 Inv-loop μ-loop
 returns-5 c = record { decides = fails (λ p. laws.refuted ((c .before .blank-at .ensures)) (not-true _ ((c .if5 .taken))) (p .1 .last)); hashed = λ q. absurd (laws.clash refl q); small = omega arith }
-
-mixed-requires-2 : tie.Need-mixed-requires-2 Inv-loop μ-loop
-mixed-requires-2 c κs = search needs
 
 returns-6 : tie.Need-returns-6 Inv-loop μ-loop
 returns-6 c = let z = laws.proved ((c .before .before .blank-at .ensures)) (not-false _ ((c .before .if5 .left))) in let a : (c .before .before .before .before .loop .j) + 1 ≡ (c .before .before .before .before .before .before .before .before .before .before .args .count) = omega arith in let b : (c .before .before .before .before .before .before .before .before .before .before .args .e) + (c .before .before .before .before .loop .j) ≡ (c .before .before .before .before .before .before .before .before .before .before .args .e) + ((c .before .before .before .before .before .before .before .before .before .before .args .count) - 1) = omega arith in
@@ -123,26 +78,26 @@ pass-spec =
     (tie.spec
     Inv-loop
     μ-loop
-    sub-end
-    child-at-requires
-    child-stands-requires
+    (λ c. search needs)
+    (λ c κs. search needs)
+    (λ c κs. search needs)
     returns
     loop-holds
-    add-level-at
-    level-at-requires
+    (λ c. search needs)
+    (λ c κs. search needs)
     returns-2
-    add-child-at
-    add-child-at-2
-    child-at-requires-2
+    (λ c. search needs)
+    (λ c. search needs)
+    (λ c κs. search needs)
     returns-3
-    child-stands-requires-2
+    (λ c κs. search needs)
     returns-4
-    mixed-requires
-    add-j
-    loop-less
+    (λ c κs. search needs)
+    (λ c. search needs)
+    (λ c. search needs)
     loop-again
-    add-blank-at
-    blank-at-requires
+    (λ c. search needs)
+    (λ c κs. search needs)
     returns-5
-    mixed-requires-2
+    (λ c κs. search needs)
     returns-6)

@@ -11,15 +11,6 @@ use denote.Ref.{now}
 use Rattle.table.proofs.rules.rules_hold.Statement.{statement}
 use Rattle.table.proofs.rules.rules_hold.Tie as tie
 
-var-of-requires : tie.Need-var-of-requires
-var-of-requires c κs = search needs
-
-count-of-requires : tie.Need-count-of-requires
-count-of-requires c κs = search needs
-
-first-of-requires : tie.Need-first-of-requires
-first-of-requires c κs = search needs
-
 returns : tie.Need-returns
 returns c = record { decides = fails (λ p. omega (arith, p .known, (c .before .before .before .var-of .ensures .0))); hashed = λ q. absurd (laws.clash refl q); small = omega arith }
 
@@ -32,20 +23,11 @@ returns-3 c = record { decides = fails (λ p. omega (arith, p .most, (c .before 
 returns-4 : tie.Need-returns-4
 returns-4 c = record { decides = fails (λ p. (c .if4 .taken) ((c .before .before .before .before .first-of .ensures .0) ∙ (p .packed ∙ sym ((c .before .before .before .before .before .before .before .before .before .pre .1))))); hashed = λ q. absurd (laws.clash refl q); small = omega arith }
 
-sub-if5 : tie.Need-sub-if5
-sub-if5 c = search needs
-
 returns-5 : tie.Need-returns-5
 returns-5 c = record { decides = fails (λ p. omega (arith, p .inside, (c .before .before .before .before .before .before .count-of .ensures .0), (c .before .before .before .before .before .first-of .ensures .0))); hashed = λ q. absurd (laws.clash refl q); small = omega arith }
 
-spare-of-requires : tie.Need-spare-of-requires
-spare-of-requires c κs = search needs
-
 returns-6 : tie.Need-returns-6
 returns-6 c = record { decides = fails (λ p. (c .if6 .taken) ((c .before .spare-of .ensures .0) ∙ p .spare)); hashed = λ q. absurd (laws.clash refl q); small = omega arith }
-
-child-at-requires : tie.Need-child-at-requires
-child-at-requires c κs = search needs
 
 returns-7 : tie.Need-returns-7
 returns-7 c = record { decides = fails (λ p. let f = sym ((c .before .before .before .before .before .before .before .before .before .first-of .ensures .0)) ∙ (c .before .before .before .before .before .if4 .left) in let q = laws.at (now ((c .before .before .before .before .before .before .before .before .before .before .before .before .before .before .args .children))) (firstAt (now ((c .before .before .before .before .before .before .before .before .before .before .before .before .before .before .args .nodes))) ((c .before .before .before .before .before .before .before .before .before .before .before .before .before .before .args .n))) ((c .before .before .before .before .before .before .before .before .before .before .before .before .before .before .args .e)) f in (c .if7 .taken) (omega (arith, q, p .plain, (c .before .child-at .ensures .0)))); hashed = λ q. absurd (laws.clash refl q); small = omega arith }
@@ -107,18 +89,18 @@ pub rules-hold-spec : {M : Type 1} → statement M
 rules-hold-spec =
     tie.close
     (tie.spec
-    var-of-requires
-    count-of-requires
-    first-of-requires
+    (λ c κs. search needs)
+    (λ c κs. search needs)
+    (λ c κs. search needs)
     returns
     returns-2
     returns-3
     returns-4
-    sub-if5
+    (λ c. search needs)
     returns-5
-    spare-of-requires
+    (λ c κs. search needs)
     returns-6
-    child-at-requires
+    (λ c κs. search needs)
     returns-7
     pass-requires
     returns-8

@@ -10,23 +10,11 @@ use Rattle.table.proofs.Laws as laws
 use Rattle.table.proofs.rules.var_below.Statement.{statement}
 use Rattle.table.proofs.rules.var_below.Tie as tie
 
-one-for-requires : tie.Need-one-for-requires
-one-for-requires c κs = search needs
-
 sub-var-of : tie.Need-sub-var-of
 sub-var-of c = ⊎-elim (λ z. omega (arith, z .1, (c .one-for .ensures .0))) (λ s. omega (arith, s .0, (c .one-for .ensures .1))) (laws.some-of ((c .before .before .args .at)))
 
 var-of-requires : tie.Need-var-of-requires
 var-of-requires c κs = ⊎-elim (λ z. omega (arith, z .0, (c .before .before .pre .1))) (λ s. omega (arith, s .0, s .1, (c .one-for .ensures .0), (c .before .before .pre .0))) (laws.some-of ((c .before .before .args .at)))
-
-sub-result : tie.Need-sub-result
-sub-result c = search needs
-
-mul-result : tie.Need-mul-result
-mul-result c = search needs
-
-add-result : tie.Need-add-result
-add-result c = search needs
 
 returns : tie.Need-returns
 returns c = (
@@ -35,4 +23,4 @@ returns c = (
 )
 
 pub var-below-spec : {M : Type 1} → statement M
-var-below-spec = tie.close (tie.spec one-for-requires sub-var-of var-of-requires sub-result mul-result add-result returns)
+var-below-spec = tie.close (tie.spec (λ c κs. search needs) sub-var-of var-of-requires (λ c. search needs) (λ c. search needs) (λ c. search needs) returns)

@@ -24,9 +24,6 @@ returns c = fails (λ p. laws.refuted ((c .before .before .rules-hold .ensures .
 scaled-requires : tie.Need-scaled-requires
 scaled-requires c κs = let y = (c .before .before .before .before .before .before .pre .0 .most-nodes) in ((c .before .before .rules-hold .ensures .small), omega arith, omega arith)
 
-add-word : tie.Need-add-word
-add-word c = search needs
-
 word-requires : tie.Need-word-requires
 word-requires c κs = let x = (c .before .before .before .before .before .before .before .pre .0 .indexed) in omega arith
 
@@ -38,9 +35,6 @@ word-requires-2 c κs = let x = (c .before .before .before .before .before .befo
 
 returns-3 : tie.Need-returns-3
 returns-3 c = let x = (c .before .before .before .before .before .before .before .before .before .before .before .pre .0 .indexed) in fails (λ p. outside ((c .before .word2 .result)) (suc ((c .before .before .before .before .before .before .before .before .before .before .before .args .n))) (omega arith) (omega arith) (omega arith) (omega arith) (laws.head-from ((c .before .before .before .before .scaled .ensures .0) ∙ bucket-hash (now ((c .before .before .before .before .before .before .before .before .before .before .before .args .nodes))) (now ((c .before .before .before .before .before .before .before .before .before .before .before .args .children))) (now ((c .before .before .before .before .before .before .before .before .before .before .before .args .cuts))) ((c .before .before .before .before .before .before .before .before .before .before .before .args .n)) ((c .before .before .before .before .before .before .before .rules-hold .ensures .hashed) (not-false _ ((c .before .before .before .before .before .if1 .left))))) ((c .before .word2 .ensures .0)) (p .linked .reached)))
-
-add-leads : tie.Need-add-leads
-add-leads c = search needs
 
 leads-requires : tie.Need-leads-requires
 leads-requires c κs = let x = (c .before .before .before .before .before .before .before .before .before .before .before .pre .0 .indexed) in let y = (c .before .before .before .before .before .before .before .before .before .before .before .pre .0 .most-nodes) in (omega arith, omega arith, omega arith, omega arith)
@@ -74,12 +68,12 @@ extends-spec =
     rules-hold-requires
     returns
     scaled-requires
-    add-word
+    (λ c. search needs)
     word-requires
     returns-2
     word-requires-2
     returns-3
-    add-leads
+    (λ c. search needs)
     leads-requires
     returns-4
     alone-requires

@@ -38,9 +38,6 @@ add-e c = let x = laws.proved ((c .before .extends .ensures)) (not-false _ ((c .
 add-n : tie.Need-add-n Inv-loop μ-loop
 add-n c = let y = (c .before .before .before .before .before .before .before .before .before .pre .most-nodes) in omega arith
 
-loop-less : tie.Need-loop-less Inv-loop μ-loop
-loop-less c = search needs
-
 loop-again : tie.Need-loop-again Inv-loop μ-loop
 loop-again c = let x = laws.proved ((c .before .extends .ensures)) (not-false _ ((c .if2 .left))) in let i = x .rules .inside in let p = x .rules .packed in let s = laws.start-next (now ((c .before .before .before .before .before .before .before .before .before .args .nodes))) ((c .before .before .before .before .before .loop .n)) in let k = (c .before .before .before .count-of .ensures .0) in let a = (c .before .before .before .before .before .loop .inv .2) in
     (refl, omega arith, omega arith, omega arith, λ m l. ⊎-elim (λ q. subst (ExtendsAt (now ((c .before .before .before .before .before .before .before .before .before .args .nodes))) (now ((c .before .before .before .before .before .before .before .before .before .args .children))) (now ((c .before .before .before .before .before .before .before .before .before .args .cuts))) (now ((c .before .before .before .before .before .before .before .before .before .args .index)))) (sym q) x) (λ h. (c .before .before .before .before .before .loop .inv .4) m h) (laws.last m ((c .before .before .before .before .before .loop .n)) l))
@@ -63,7 +60,7 @@ judge-spec =
     returns
     add-e
     add-n
-    loop-less
+    (λ c. search needs)
     loop-again
     rest-holds-requires
     returns-2)

@@ -7,17 +7,11 @@ use Rattle.table.proofs.Laws as laws
 use Rattle.table.proofs.sound.rest_holds.Statement.{statement}
 use Rattle.table.proofs.sound.rest_holds.Tie as tie
 
-mul-zeros-from : tie.Need-mul-zeros-from
-mul-zeros-from c = search needs
-
 zeros-from-requires : tie.Need-zeros-from-requires
 zeros-from-requires c κs = let x = (c .before .before .before .pre .0 .whole) in omega arith
 
 returns : tie.Need-returns
 returns c = fails (λ p. laws.refuted ((c .before .zeros-from .ensures)) (not-true _ ((c .if1 .taken))) (p .no-node))
-
-zeros-from-requires-2 : tie.Need-zeros-from-requires-2
-zeros-from-requires-2 c κs = search needs
 
 returns-2 : tie.Need-returns-2
 returns-2 c = fails (λ p. laws.refuted ((c .before .zeros-from2 .ensures)) (not-true _ ((c .if2 .taken))) (p .no-child))
@@ -28,17 +22,11 @@ blanks-from-requires c κs = let x = (c .before .before .before .before .before 
 returns-3 : tie.Need-returns-3
 returns-3 c = fails (λ p. laws.refuted ((c .before .blanks-from .ensures)) (not-true _ ((c .if3 .taken))) (p .no-cut))
 
-add-zeros-from : tie.Need-add-zeros-from
-add-zeros-from c = search needs
-
 zeros-from-requires-3 : tie.Need-zeros-from-requires-3
 zeros-from-requires-3 c κs = let x = (c .before .before .before .before .before .before .before .before .before .pre .0 .indexed) in omega arith
 
 returns-4 : tie.Need-returns-4
 returns-4 c = fails (λ p. laws.refuted ((c .before .zeros-from3 .ensures)) (not-true _ ((c .if4 .taken))) (p .no-next))
-
-add-tallies : tie.Need-add-tallies
-add-tallies c = search needs
 
 tallies-requires : tie.Need-tallies-requires
 tallies-requires c κs = let x = (c .before .before .before .before .before .before .before .before .before .before .before .pre .0 .indexed) in let y = (c .before .before .before .before .before .before .before .before .before .before .before .pre .0 .most-nodes) in omega arith
@@ -50,16 +38,16 @@ pub rest-holds-spec : {M : Type 1} → statement M
 rest-holds-spec =
     tie.close
     (tie.spec
-    mul-zeros-from
+    (λ c. search needs)
     zeros-from-requires
     returns
-    zeros-from-requires-2
+    (λ c κs. search needs)
     returns-2
     blanks-from-requires
     returns-3
-    add-zeros-from
+    (λ c. search needs)
     zeros-from-requires-3
     returns-4
-    add-tallies
+    (λ c. search needs)
     tallies-requires
     returns-5)

@@ -21,23 +21,11 @@ abbrev μ-loop : tie.MeasureT-loop
 loop-holds : tie.Need-loop-holds Inv-loop μ-loop
 loop-holds c = (omega arith, omega arith, sym (laws.tally-none (λ (k : ℕ). getD (now ((c .before .args .index))) k 0)), λ k l. absurd (omega arith))
 
-word-requires : tie.Need-word-requires Inv-loop μ-loop
-word-requires c κs = search needs
-
 returns : tie.Need-returns Inv-loop μ-loop
 returns c = fails (λ p. omega (arith, p .small ((c .before .before .before .loop .i)) ((c .before .before .loop-test .taken)), (c .before .word .ensures .0)))
 
-one-for-requires : tie.Need-one-for-requires Inv-loop μ-loop
-one-for-requires c κs = search needs
-
 add-full : tie.Need-add-full Inv-loop μ-loop
 add-full c = omega (arith, (c .one-for .ensures .1))
-
-add-i : tie.Need-add-i Inv-loop μ-loop
-add-i c = search needs
-
-loop-less : tie.Need-loop-less Inv-loop μ-loop
-loop-less c = search needs
 
 loop-again : tie.Need-loop-again Inv-loop μ-loop
 loop-again c = let w = (c .before .before .word .ensures .0) in let o = (c .one-for .ensures .0) in let g = ap some w in let t = laws.tally-next (λ (k : ℕ). getD (now ((c .before .before .before .before .before .before .args .index))) k 0) ((c .before .before .before .before .loop .i)) in
@@ -56,12 +44,12 @@ tallies-spec =
     Inv-loop
     μ-loop
     loop-holds
-    word-requires
+    (λ c κs. search needs)
     returns
-    one-for-requires
+    (λ c κs. search needs)
     add-full
-    add-i
-    loop-less
+    (λ c. search needs)
+    (λ c. search needs)
     loop-again
     returns-2
     returns-3)

@@ -22,17 +22,8 @@ abbrev μ-loop : tie.MeasureT-loop
 loop-holds : tie.Need-loop-holds Inv-loop μ-loop
 loop-holds c = (omega arith, omega arith, omega arith, λ z k a b. absurd (omega arith), λ h. refl)
 
-one-at-requires : tie.Need-one-at-requires Inv-loop μ-loop
-one-at-requires c κs = search needs
-
 add-full : tie.Need-add-full Inv-loop μ-loop
 add-full c = omega (arith, (c .one-at .ensures .0))
-
-add-i : tie.Need-add-i Inv-loop μ-loop
-add-i c = search needs
-
-loop-less : tie.Need-loop-less Inv-loop μ-loop
-loop-less c = search needs
 
 loop-again : tie.Need-loop-again Inv-loop μ-loop
 loop-again c = let o = (c .one-at .ensures) in (
@@ -56,10 +47,10 @@ blanks-from-spec =
     Inv-loop
     μ-loop
     loop-holds
-    one-at-requires
+    (λ c κs. search needs)
     add-full
-    add-i
-    loop-less
+    (λ c. search needs)
+    (λ c. search needs)
     loop-again
     returns
     returns-2)

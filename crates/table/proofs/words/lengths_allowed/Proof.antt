@@ -11,9 +11,6 @@ returns c = fails (λ p. omega (arith, p .some-nodes))
 returns-2 : tie.Need-returns-2
 returns-2 c = fails (λ p. omega (arith, p .most-nodes))
 
-mul-if3 : tie.Need-mul-if3
-mul-if3 c = search needs
-
 returns-3 : tie.Need-returns-3
 returns-3 c = fails (λ p. (c .if3 .taken) (p .whole))
 
@@ -25,9 +22,6 @@ returns-5 c = fails (λ p. omega (arith, p .most-edges))
 
 returns-6 : tie.Need-returns-6
 returns-6 c = fails (λ p. (c .if6 .taken) (p .cut-each))
-
-mul-if7 : tie.Need-mul-if7
-mul-if7 c = search needs
 
 returns-7 : tie.Need-returns-7
 returns-7 c = fails (λ p. (c .if7 .taken) (p .indexed))
@@ -41,11 +35,11 @@ lengths-allowed-spec =
     (tie.spec
     returns
     returns-2
-    mul-if3
+    (λ c. search needs)
     returns-3
     returns-4
     returns-5
     returns-6
-    mul-if7
+    (λ c. search needs)
     returns-7
     returns-8)

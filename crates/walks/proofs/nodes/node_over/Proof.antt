@@ -16,38 +16,8 @@ merged-requires c κs = (((c .before .before .before .before .before .before .be
 create-node-requires : tie.Need-create-node-requires
 create-node-requires c κs = ((c .before .before .before .before .before .before .before .before .before .before .pre .0), merged-builds (((c .before .before .before .before .before .before .before .before .before .before .pre .2)) (not-false _ ((c .before .before .before .before .before .if1 .left)))) ((c .merged .ensures)))
 
-remember-requires : tie.Need-remember-requires
-remember-requires c κs = search needs
-
-same-length : tie.Need-same-length
-same-length c = search needs
-
-same-length-2 : tie.Need-same-length-2
-same-length-2 c = search needs
-
-same-length-3 : tie.Need-same-length-3
-same-length-3 c = search needs
-
-same-length-4 : tie.Need-same-length-4
-same-length-4 c = search needs
-
-same-length-5 : tie.Need-same-length-5
-same-length-5 c = search needs
-
 returns-2 : tie.Need-returns-2
 returns-2 c = record { nothing = λ q. absurd (clash q (not-false _ ((c .before .before .before .before .before .before .before .before .before .before .before .before .before .before .before .before .before .before .before .if1 .left)))); made = λ q. merged-settles (((c .before .before .before .before .before .before .before .before .before .before .before .before .before .before .before .before .before .before .before .before .before .before .before .before .pre .2)) (not-false _ ((c .before .before .before .before .before .before .before .before .before .before .before .before .before .before .before .before .before .before .before .if1 .left)))) ((c .before .before .before .before .before .before .before .before .before .before .before .before .before .before .merged .ensures)) ((c .before .before .before .before .before .before .before .before .before .before .before .before .before .create-node .ensures .0)); noted = λ q y. ((c .before .before .remember .ensures)); not-noted = λ q y. absurd (clash y ((c .before .before .before .before .before .if2 .taken))) }
-
-same-length-6 : tie.Need-same-length-6
-same-length-6 c = search needs
-
-same-length-7 : tie.Need-same-length-7
-same-length-7 c = search needs
-
-same-length-8 : tie.Need-same-length-8
-same-length-8 c = search needs
-
-same-length-9 : tie.Need-same-length-9
-same-length-9 c = search needs
 
 returns-3 : tie.Need-returns-3
 returns-3 c = record { nothing = λ q. absurd (clash q (not-false _ ((c .before .before .before .before .before .before .before .before .before .before .before .before .before .before .if1 .left)))); made = λ q. merged-settles (((c .before .before .before .before .before .before .before .before .before .before .before .before .before .before .before .before .before .before .before .pre .2)) (not-false _ ((c .before .before .before .before .before .before .before .before .before .before .before .before .before .before .if1 .left)))) ((c .before .before .before .before .before .before .before .before .before .merged .ensures)) ((c .before .before .before .before .before .before .before .before .create-node .ensures .0)); noted = λ q y. absurd (clash ((c .if2 .left)) y); not-noted = λ q y. refl }
@@ -59,15 +29,15 @@ node-over-spec =
     returns
     merged-requires
     create-node-requires
-    remember-requires
-    same-length
-    same-length-2
-    same-length-3
-    same-length-4
-    same-length-5
+    (λ c κs. search needs)
+    (λ c. search needs)
+    (λ c. search needs)
+    (λ c. search needs)
+    (λ c. search needs)
+    (λ c. search needs)
     returns-2
-    same-length-6
-    same-length-7
-    same-length-8
-    same-length-9
+    (λ c. search needs)
+    (λ c. search needs)
+    (λ c. search needs)
+    (λ c. search needs)
     returns-3)

@@ -6,17 +6,11 @@ use borrow.Author.Needs.{needs}
 use Rattle.walks.proofs.steps.turn.Statement.{statement}
 use Rattle.walks.proofs.steps.turn.Tie as tie
 
-sub-result : tie.Need-sub-result
-sub-result c = search needs
-
 returns : tie.Need-returns
 returns c = rw (lt-ltb ((c .before .args .u)) firstBoolean ((c .if1 .taken))) refl
-
-sub-result-2 : tie.Need-sub-result-2
-sub-result-2 c = search needs
 
 returns-2 : tie.Need-returns-2
 returns-2 c = rw (le-ltb ((c .before .args .u)) firstBoolean ((c .if1 .left))) refl
 
 pub turn-spec : {M : Type 1} → statement M
-turn-spec = tie.close (tie.spec sub-result returns sub-result-2 returns-2)
+turn-spec = tie.close (tie.spec (λ c. search needs) returns (λ c. search needs) returns-2)

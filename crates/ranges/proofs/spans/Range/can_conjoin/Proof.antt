@@ -7,12 +7,6 @@ use Rattle.ranges.proofs.Holds.{none, some, apart, next-to}
 use Rattle.ranges.proofs.spans.Range.can_conjoin.Statement.{statement}
 use Rattle.ranges.proofs.spans.Range.can_conjoin.Tie as tie
 
-is-empty-requires : tie.Need-is-empty-requires
-is-empty-requires c κs = search needs
-
-is-empty-requires-2 : tie.Need-is-empty-requires-2
-is-empty-requires-2 c κs = search needs
-
 returns : tie.Need-returns
 returns c =
     let a = c .before .before .args in
@@ -29,4 +23,4 @@ returns-2 c =
     next-to (e .before .args .self) (e .before .args .next) _ (some (e .is-empty .ensures) (d .before .before .if1 .left)) (some (d .before .is-empty2 .ensures) (d .if2 .left)) (omega (arith, eqb-false))
 
 pub can-conjoin-spec : {M : Type 1} → statement M
-can-conjoin-spec = tie.close (tie.spec is-empty-requires is-empty-requires-2 returns sub-result returns-2)
+can-conjoin-spec = tie.close (tie.spec (λ c κs. search needs) (λ c κs. search needs) returns sub-result returns-2)

@@ -4,16 +4,10 @@ use Rattle.ranges.proofs.Ends.{keyed, bounded}
 use Rattle.ranges.proofs.spans.Range.from_bounds.Statement.{statement}
 use Rattle.ranges.proofs.spans.Range.from_bounds.Tie as tie
 
-first-of-requires : tie.Need-first-of-requires
-first-of-requires c κs = search needs
-
-last-of-requires : tie.Need-last-of-requires
-last-of-requires c κs = search needs
-
 returns : tie.Need-returns
 returns c =
     let s = c .before .before in
     bounded (keyed (s .args .lower) (s .good .0)) (keyed (s .args .upper) (s .good .1 .0)) (c .before .first-of .ensures) (c .last-of .ensures)
 
 pub from-bounds-spec : {M : Type 1} → statement M
-from-bounds-spec = tie.close (tie.spec first-of-requires last-of-requires returns)
+from-bounds-spec = tie.close (tie.spec (λ c κs. search needs) (λ c κs. search needs) returns)
