@@ -1,7 +1,7 @@
 // The used words of a table. Each function looks whether the word is there, so that none has a condition on its caller.
 use super::questions::Question;
 use super::show;
-use super::show::LEVEL_ZERO;
+use super::show::ZERO_POSITION;
 use ids::NodeId;
 use kernel::answers::Answer;
 use kernel::answers::refused;
@@ -10,7 +10,7 @@ use table::limits::MOST_EDGE_ROOM;
 use table::limits::MOST_EDGES;
 use table::limits::MOST_NODES;
 use table::told::DONE;
-use table::words::level_of;
+use table::words::cut_position;
 use table::words::wide;
 
 // Word k of the record of node n: its variable, its number of edges, the number of the first of them, a spare.
@@ -124,11 +124,11 @@ fn cut_at(cuts: &[i64], i: usize) -> Answer {
     if i >= cuts.len() {
         return refused(DONE);
     }
-    let level = level_of(cuts[i]);
-    if level < LEVEL_ZERO {
+    let position = cut_position(cuts[i]);
+    if position < ZERO_POSITION {
         return refused(DONE);
     }
-    count(level - LEVEL_ZERO)
+    count(position - ZERO_POSITION)
 }
 
 fn count_all(

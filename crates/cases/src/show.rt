@@ -1,12 +1,12 @@
 // What every part of the program writes with, and the count of what came out wrong.
 use ranges::places::ZERO;
 use ranges::places::position_of_key;
-use table::words::level_of;
+use table::words::cut_position;
 
 const OUT: i32 = 1;
 
-// What `level_of` makes of the cut 0.
-pub const LEVEL_ZERO: usize = 4294967297;
+// What `cut_position` makes of the cut 0.
+pub const ZERO_POSITION: usize = 4294967297;
 
 // How many cases were run, and how many answers were not the document's.
 pub struct Count {
@@ -70,13 +70,13 @@ pub fn key_between(before: &[u8], v: i32, after: &[u8]) {
 }
 
 pub fn cut(z: i64) {
-    let level = level_of(z);
-    if level < LEVEL_ZERO {
+    let position = cut_position(z);
+    if position < ZERO_POSITION {
         text(b"-");
-        size(LEVEL_ZERO - level);
+        size(ZERO_POSITION - position);
         return;
     }
-    size(level - LEVEL_ZERO);
+    size(position - ZERO_POSITION);
 }
 
 // TRUE, FALSE, or the number.

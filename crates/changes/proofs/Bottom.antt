@@ -43,6 +43,7 @@ use Rattle.walks.proofs.Composing.{sound-of}
 use Rattle.clipping.specs.declared.Clip.{Clip}
 use Rattle.clipping.specs.Clipping.{Clips}
 use Rattle.changes.specs.Changed.{narrowing, widening}
+use Rattle.table.specs.Layout.{Store}
 
 -- one edge stays, whatever the range
 narrowing-last : (r : Range) (c : ℕ) → narrowing r (last c) ≡ last c
@@ -65,27 +66,27 @@ narrowing-none r e l n = rw (lt-ltb (r .last) (r .first) l) (go e n)
 narrowing-some : (r : Range) (e : Pieces ℕ) → r .first ≤ r .last → narrowing r e ≡ narrowed (r .first) (r .last) e
 narrowing-some r e l = rw (le-ltb (r .last) (r .first) l)
 
-module _ {h : Head} {nodes children : List ℕ} {cuts : List ℤ} {index : List ℕ} (l : Lent h nodes children cuts index) where
+module _ {h : Head} {st : Store} {index : List ℕ} (l : Lent h st index) where
   abbrev t : Table
-  t = tableOf h nodes children cuts
+  t = tableOf h st
 
   -- a lent table can be read
-  pub lent-read : Readable nodes children cuts (h .used)
-  lent-read = readable nodes children cuts index (h .used) (l .allowed) (l .sound)
+  pub lent-read : Readable st (h .used)
+  lent-read = readable st index (h .used) (l .allowed) (l .sound)
 
-  module _ {v id : ℕ} {a : View} (va : Views nodes children cuts (h .used) v id a) where
+  module _ {v id : ℕ} {a : View} (va : Views st (h .used) v id a) where
     -- a view of it lies within the words,
-    pub view-inside : Inside (length children) a
-    view-inside = views-inside nodes children cuts (h .used) v id a lent-read va
+    pub view-inside : Inside (length (st .children)) a
+    view-inside = views-inside st (h .used) v id a lent-read va
 
     -- and has as many edges as the id at the variable
     as-many : count (edgesOf t v id) ≡ a .count
-    as-many = sym (ap count (va .edges)) ∙ seen-count children cuts v a (va .inside .some)
+    as-many = sym (ap count (va .edges)) ∙ seen-count (st .children) (st .cuts) v a (va .inside .some)
 
     module _ (k : KnownTo (h .used) id) (b : isBefore t v id ≡ false) (hv : v < firstBoolean) where
       -- the id tests no earlier variable,
       at-or-after : Child t v id
-      at-or-after = (known-held nodes children cuts (h .used) id k, before-no t v id b)
+      at-or-after = (known-held st (h .used) id k, before-no t v id b)
 
       -- so that its edges here are as those of a node,
       kids-here : Kids t v id (edgesOf t v id)
@@ -116,7 +117,7 @@ module _ {h : Head} {nodes children : List ℕ} {cuts : List ℤ} {index : List 
         narrow-emptied n o = ap (create-node t v) (narrowing-none r (edgesOf t v id) o (λ q. n (sym as-many ∙ q))) ∙ create-last t v FALSE
 
         -- and to any other: a node of the edges inside it,
-        module _ (some : r .first ≤ r .last) (most : r .last ≤ top) {es : built.Edges} (es-is : Building es × ((w : ℕ) → w < firstBoolean → piecesOf es ≡ narrowed (r .first) (r .last) (seen children cuts w a 0))) where
+        module _ (some : r .first ≤ r .last) (most : r .last ≤ top) {es : built.Edges} (es-is : Building es × ((w : ℕ) → w < firstBoolean → piecesOf es ≡ narrowed (r .first) (r .last) (seen (st .children) (st .cuts) w a 0))) where
           -- which are those that were made,
           narrowed-pieces : piecesOf es ≡ narrowed (r .first) (r .last) (edgesOf t v id)
           narrowed-pieces = es-is .1 v hv ∙ ap (narrowed (r .first) (r .last)) (va .edges)
@@ -135,7 +136,7 @@ module _ {h : Head} {nodes children : List ℕ} {cuts : List ℤ} {index : List 
           narrow-settles = ap (settle t v) narrowed-pieces ∙ (sym (narrowed-create t v (r .first) (r .last) (edgesOf t v id) (kids-here .reduced)) ∙ ap (create-node t v) (sym (narrowing-some r (edgesOf t v id) some)))
 
         -- widening: the edges inside the range, FALSE outside it
-        module _ (some : r .first ≤ r .last) (most : r .last ≤ top) {c : Clip} (clips : (w : ℕ) → w < firstBoolean → Rising 0 (topOf w) (seen children cuts w a 0) → Clips (widened (r .first) (r .last) (topOf w) (seen children cuts w a 0)) c) where
+        module _ (some : r .first ≤ r .last) (most : r .last ≤ top) {c : Clip} (clips : (w : ℕ) → w < firstBoolean → Rising 0 (topOf w) (seen (st .children) (st .cuts) w a 0) → Clips (widened (r .first) (r .last) (topOf w) (seen (st .children) (st .cuts) w a 0)) c) where
           abbrev wide : Pieces ℕ
           wide = widening v r (edgesOf t v id)
 
@@ -163,9 +164,9 @@ module _ {h : Head} {nodes children : List ℕ} {cuts : List ℤ} {index : List 
           widen-settles good = ap (settle t v) (clips-here .built good .1)
 
           -- a 65th edge fits nowhere
-          pub widen-full : c .ok ≡ false → (id′ : NodeId) → Outcome h (create-node t v wide) (record { ok = false; id = id′; head = h }) nodes children cuts nodes children cuts index
+          pub widen-full : c .ok ≡ false → (id′ : NodeId) → Outcome h (create-node t v wide) (record { ok = false; id = id′; head = h }) st st index
           widen-full bad id′ = record { lent = l; stays = stays-here; table = λ q. absurd (clash refl q); id = λ q. absurd (clash refl q); full = λ q f. full-wide t v wide _ _ (clips-here .over bad) f }
 
 -- what was made under one name was made under another
-pub outcome-as : {h : Head} {want other : Table × ℕ} {m : Made} {nodes children : List ℕ} {cuts : List ℤ} {nodes′ children′ : List ℕ} {cuts′ : List ℤ} {index′ : List ℕ} → Outcome h want m nodes children cuts nodes′ children′ cuts′ index′ → want ≡ other → Outcome h other m nodes children cuts nodes′ children′ cuts′ index′
-outcome-as {h} {m = m} {nodes} {children} {cuts} {nodes′} {children′} {cuts′} {index′} o e = subst (λ (w : Table × ℕ). Outcome h w m nodes children cuts nodes′ children′ cuts′ index′) e o
+pub outcome-as : {h : Head} {want other : Table × ℕ} {m : Made} {st : Store} {st′ : Store} {index′ : List ℕ} → Outcome h want m st st′ index′ → want ≡ other → Outcome h other m st st′ index′
+outcome-as {h} {m = m} {st} {st′} {index′} o e = subst (λ (w : Table × ℕ). Outcome h w m st st′ index′) e o

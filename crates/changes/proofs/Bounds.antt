@@ -25,6 +25,7 @@ use Rattle.making.specs.Outcome.{Lent, tableOf}
 use Rattle.views.proofs.Sights.{known-held}
 use Rattle.walks.proofs.Composing.{sound-of}
 use Rattle.changes.specs.Changed.{changed, narrowing, widening}
+use Rattle.table.specs.Layout.{Store}
 
 module _ {lower upper : Bound} {r : Range} (b : Bounded lower upper r) (kl : Keyed lower) (ku : Keyed upper) where
   -- the bounds are empty when the range is
@@ -44,13 +45,13 @@ module _ {lower upper : Bound} {r : Range} (b : Bounded lower upper r) (kl : Key
     widen-bounded some =
         ap₂ (λ (lo hi : ℕ). change variables (widened lo hi (topOf v)) t v id) (b .first) (b .last) ∙ sym (widen-is t v lower upper id (empty-is ∙ le-ltb (r .last) (r .first) some))
 
-module _ {h : Head} {nodes children : List ℕ} {cuts : List ℤ} {index : List ℕ} (l : Lent h nodes children cuts index) (v id : ℕ) (k : KnownTo (h .used) id) (hv : v < firstBoolean) where
+module _ {h : Head} {st : Store} {index : List ℕ} (l : Lent h st index) (v id : ℕ) (k : KnownTo (h .used) id) (hv : v < firstBoolean) where
   abbrev t : Table
-  t = tableOf h nodes children cuts
+  t = tableOf h st
 
   -- the id is one of the table
   known : Known t id
-  known = known-held nodes children cuts (h .used) id k
+  known = known-held st (h .used) id k
 
   -- "both ends open: the id unchanged" by narrowing, and by widening
   module _ {lower upper : Bound} (both : (lower ≡ Open) × (upper ≡ Open)) where

@@ -36,18 +36,19 @@ use Rattle.walks.proofs.Composing.{Grows, sound-of, can-read, call-left, settle
 use Rattle.walks.proofs.Booleans.{inside-still}
 use Rattle.walks.proofs.Gathering.{Gather, Side, gather-starts, edge-inside, kid-asked, gather-step, gather-falls, can-merge, gathered}
 use Rattle.changes.specs.Changed.{Changed, changed}
+use Rattle.table.specs.Layout.{Store}
 
 module _ (v : ℕ) (hv : v < variables) (g : Pieces ℕ → Pieces ℕ) (ch : Changes v g) where
   -- What was noted stays true of a table that continues this one.
   pub changed-grows : Grows (Changed v g)
   changed-grows t t′ z z′ c x y w e = record { known = omega (arith, continues-length c, e .known); becomes = change-grown v hv g ch z z′ c x w (e .known) (e .becomes) }
 
-  module _ {h : Head} {nodes children : List ℕ} {cuts : List ℤ} {index memo : List ℕ} (r : Ready (Changed v g) h nodes children cuts index memo) {n id : ℕ} (q : Asked (tableOf h nodes children cuts) (h .used) n id) where
+  module _ {h : Head} {st : Store} {index memo : List ℕ} (r : Ready (Changed v g) h st index memo) {n id : ℕ} (q : Asked (tableOf h st) (h .used) n id) where
     abbrev t : Table
-    t = tableOf h nodes children cuts
+    t = tableOf h st
 
     pub id-known : Known t id
-    id-known = known-held nodes children cuts (h .used) id (q .known)
+    id-known = known-held st (h .used) id (q .known)
 
     -- At the variable, or past it, the edges there are changed.
     pub here-is : isBefore t v id ≡ false → create-node t v (g (edgesOf t v id)) ≡ changed v g t id
@@ -65,7 +66,7 @@ module _ (v : ℕ) (hv : v < variables) (g : Pieces ℕ → Pieces ℕ) (ch : Ch
       pub before-node : 2 ≤ id
       before-node = omega (arith, is-node t (ref id) (omega (arith, before-yes t v id b)))
 
-      module _ {u : ℕ} (eu : u ≡ (at t (ref id)) .var) {a : View} (va : Views nodes children cuts (h .used) u id a) where
+      module _ {u : ℕ} (eu : u ≡ (at t (ref id)) .var) {a : View} (va : Views st (h .used) u id a) where
         -- whose variable is an earlier one,
         pub earlier : u < v
         earlier = omega (arith, eu, before-yes t v id b)
@@ -74,14 +75,14 @@ module _ (v : ℕ) (hv : v < variables) (g : Pieces ℕ → Pieces ℕ) (ch : Ch
         own = (id-known, omega (arith, eu))
 
         -- whose children can be gone down to,
-        pub side : Side (changed v g) h nodes children cuts memo a u
+        pub side : Side (changed v g) h st memo a u
         side =
             let l : u < variables = omega (arith, earlier) in
             record {
               known = l;
               inside = record { some = va .inside .some; most = va .inside .most; within = λ i. omega (arith, va .inside .within i, r .lent .edges) };
-              rises = views-rising nodes children cuts (h .used) u id a (can-read r) l own va;
-              kids = views-kids nodes children cuts (h .used) u id a (can-read r) l own va;
+              rises = views-rising st (h .used) u id a (can-read r) l own va;
+              kids = views-kids st (h .used) u id a (can-read r) l own va;
             }
 
         -- with a call left for each,
@@ -92,7 +93,7 @@ module _ (v : ℕ) (hv : v < variables) (g : Pieces ℕ → Pieces ℕ) (ch : Ch
         kid-made w z c x k = change-made v hv g ch t (sound-of (r .lent)) u earlier w z c x k
 
         -- and the node over what they become is the answer.
-        pub over-is : over (not (isRange u)) (changed v g) t u (seen children cuts u a 0) ≡ changed v g t id
+        pub over-is : over (not (isRange u)) (changed v g) t u (seen (st .children) (st .cuts) u a 0) ≡ changed v g t id
         unfolding over
         over-is =
             ap (λ (e : Pieces ℕ). create-over u (walkIn (not (isRange u)) (changed v g) t e)) (va .edges)
@@ -107,11 +108,11 @@ not-before {b} e z = sym e ∙ not-true b z
 pub still-before : {b x : Bool} → b ≡ x → not b ≡ false → x ≡ true
 still-before {b} e z = sym e ∙ not-false b z
 
-module _ {v : ℕ} {g : Pieces ℕ → Pieces ℕ} {h : Head} {nodes children : List ℕ} {cuts : List ℤ} {index memo : List ℕ} (r : Ready (Changed v g) h nodes children cuts index memo) {n id : ℕ} (q : Asked (tableOf h nodes children cuts) (h .used) n id)
-    (hv : v < variables) (ch : Changes v g) {b : Bool} (e : b ≡ isBefore (tableOf h nodes children cuts) v id) where
+module _ {v : ℕ} {g : Pieces ℕ → Pieces ℕ} {h : Head} {st : Store} {index memo : List ℕ} (r : Ready (Changed v g) h st index memo) {n id : ℕ} (q : Asked (tableOf h st) (h .used) n id)
+    (hv : v < variables) (ch : Changes v g) {b : Bool} (e : b ≡ isBefore (tableOf h st) v id) where
   -- At the variable, or past it, what is made of the edges there is the answer.
-  pub stops : not b ≡ true → {o : code.Made} {nodes₁ children₁ : List ℕ} {cuts₁ : List ℤ} {index₁ : List ℕ} → Outcome h (create-node (tableOf h nodes children cuts) v (g (edgesOf (tableOf h nodes children cuts) v id))) o nodes children cuts nodes₁ children₁ cuts₁ index₁
-      → Stepped (Changed v g) h (changed v g (tableOf h nodes children cuts) id) o nodes children cuts memo nodes₁ children₁ cuts₁ index₁ memo
+  pub stops : not b ≡ true → {o : code.Made} {st₁ : Store} {index₁ : List ℕ} → Outcome h (create-node (tableOf h st) v (g (edgesOf (tableOf h st) v id))) o st st₁ index₁
+      → Stepped (Changed v g) h (changed v g (tableOf h st) id) o st memo st₁ index₁ memo
   stops z o = becomes (made-here r (changed-grows v hv g ch) o) (here-is v hv g ch r q (not-before e z))
 
   -- Before it there is a node,
@@ -119,80 +120,80 @@ module _ {v : ℕ} {g : Pieces ℕ → Pieces ℕ} {h : Head} {nodes children : 
   before-is-node z = before-node v hv g ch r q (still-before e z)
 
   -- and what is remembered of it is the answer.
-  pub recalls : not b ≡ false → (w : NodeId) → Hit memo id TRUE (w .0) → Stepped (Changed v g) h (changed v g (tableOf h nodes children cuts) id) (record { ok = true; id = w; head = h }) nodes children cuts memo nodes children cuts index memo
+  pub recalls : not b ≡ false → (w : NodeId) → Hit memo id TRUE (w .0) → Stepped (Changed v g) h (changed v g (tableOf h st) id) (record { ok = true; id = w; head = h }) st memo st index memo
   recalls z w x = settled r w (memo-hit (r .recalled) (omega (arith, before-is-node z)) x .becomes)
 
 -- A node before the variable, as a step finds it: what the way down knows of it and of the view of its edges.
-pub record Entered (v : ℕ) (g : Pieces ℕ → Pieces ℕ) (h : Head) (nodes children : List ℕ) (cuts : List ℤ) (index memo : List ℕ) (n id u : ℕ) (a : View) : Type 0 where
+pub record Entered (v : ℕ) (g : Pieces ℕ → Pieces ℕ) (h : Head) (st : Store) (index memo : List ℕ) (n id u : ℕ) (a : View) : Type 0 where
   pub known : v < variables
   pub changes : Changes v g
-  pub ready : Ready (Changed v g) h nodes children cuts index memo
-  pub asked : Asked (tableOf h nodes children cuts) (h .used) n id
-  pub before : isBefore (tableOf h nodes children cuts) v id ≡ true
-  pub variable : u ≡ (at (tableOf h nodes children cuts) (ref id)) .var
-  pub view : Views nodes children cuts (h .used) u id a
+  pub ready : Ready (Changed v g) h st index memo
+  pub asked : Asked (tableOf h st) (h .used) n id
+  pub before : isBefore (tableOf h st) v id ≡ true
+  pub variable : u ≡ (at (tableOf h st) (ref id)) .var
+  pub view : Views st (h .used) u id a
 
 -- The laws of the loop over the children of such a node.
-module _ {v : ℕ} {g : Pieces ℕ → Pieces ℕ} {h : Head} {nodes children : List ℕ} {cuts : List ℤ} {index memo : List ℕ} {n id u : ℕ} {a : View} (e : Entered v g h nodes children cuts index memo n id u a) where
+module _ {v : ℕ} {g : Pieces ℕ → Pieces ℕ} {h : Head} {st : Store} {index memo : List ℕ} {n id u : ℕ} {a : View} (e : Entered v g h st index memo n id u a) where
   abbrev f : Table → ℕ → Table × ℕ
   f = changed v g
 
   abbrev m : ℕ → Assignment → Bool
-  m = means v (e .known) g (e .changes) variables (tableOf h nodes children cuts)
+  m = means v (e .known) g (e .changes) variables (tableOf h st)
 
   own-grows : Grows (Changed v g)
   own-grows = changed-grows v (e .known) g (e .changes)
 
-  own-side : Side f h nodes children cuts memo a u
+  own-side : Side f h st memo a u
   own-side = side v (e .known) g (e .changes) (e .ready) (e .asked) (e .before) (e .variable) (e .view)
 
-  own-made : (w : Table) → Sound w → Continues (tableOf h nodes children cuts) w → (x : ℕ) → Child (tableOf h nodes children cuts) (suc u) x → Made w (suc u) (m x) (f w x)
+  own-made : (w : Table) → Sound w → Continues (tableOf h st) w → (x : ℕ) → Child (tableOf h st) (suc u) x → Made w (suc u) (m x) (f w x)
   own-made = kid-made v (e .known) g (e .changes) (e .ready) (e .asked) (e .before) (e .variable) (e .view)
 
   -- Before the first turn,
-  pub starts : (out : built.Edges) → length (out .list) ≡ mostEdges → Gather f h nodes children cuts memo a u (Changed v g) h nodes children cuts index memo out true (a .count)
-  starts = gather-starts f h nodes children cuts memo a u own-grows (e .ready) own-side m own-made
+  pub starts : (out : built.Edges) → length (out .list) ≡ mostEdges → Gather f h st memo a u (Changed v g) h st index memo out true (a .count)
+  starts = gather-starts f h st memo a u own-grows (e .ready) own-side m own-made
 
-  module _ {now : Head} {nodes₁ children₁ : List ℕ} {cuts₁ : List ℤ} {index₁ memo₁ : List ℕ} {out : built.Edges} {ok : Bool} {left : ℕ}
-      (l : Gather f h nodes children cuts memo a u (Changed v g) now nodes₁ children₁ cuts₁ index₁ memo₁ out ok left) where
+  module _ {now : Head} {st₁ : Store} {index₁ memo₁ : List ℕ} {out : built.Edges} {ok : Bool} {left : ℕ}
+      (l : Gather f h st memo a u (Changed v g) now st₁ index₁ memo₁ out ok left) where
     -- in each, whose view lies within the slices,
-    pub in-children : Inside (length children₁) a
+    pub in-children : Inside (length (st₁ .children)) a
     in-children = inside-still (e .ready) (own-side .inside) (l .stays .wide)
 
-    pub in-cuts : Inside (length cuts₁) a
+    pub in-cuts : Inside (length (st₁ .cuts)) a
     in-cuts = inside-still (e .ready) (own-side .inside) (l .ready .lent .allowed .cut-each ∙ l .stays .wide)
 
     module _ (on : 0 < left) {i : ℕ} (ei : i ≡ cond (isRange u) (a .count - left) (left - 1)) where
       -- with an edge that has a slot,
       pub in-view : i < a .count
-      in-view = edge-inside f h nodes children cuts memo a u own-grows (e .ready) own-side m own-made l on ei
+      in-view = edge-inside f h st memo a u own-grows (e .ready) own-side m own-made l on ei
 
       pub in-slots : i < mostEdges
       in-slots = omega (arith, in-view, own-side .inside .most)
 
-      module _ {x : ℕ} (rx : x ≡ childSeen children₁ a i) where
+      module _ {x : ℕ} (rx : x ≡ childSeen (st₁ .children) a i) where
         -- whose child may be asked about,
-        pub below-asked : Asked (tableOf now nodes₁ children₁ cuts₁) (now .used) (n - 1) x
-        below-asked = kid-asked f h nodes children cuts memo a u own-grows (e .ready) own-side m own-made l on ei rx
+        pub below-asked : Asked (tableOf now st₁) (now .used) (n - 1) x
+        below-asked = kid-asked f h st memo a u own-grows (e .ready) own-side m own-made l on ei rx
             (enough v (e .known) g (e .changes) (e .ready) (e .asked) (e .before) (e .variable) (e .view))
 
-        module _ {k : ℕ} (rk : i + 1 < a .count → k ≡ cutSeen cuts₁ u a i) {d : code.Made} {nodes₂ children₂ : List ℕ} {cuts₂ : List ℤ} {index₂ memo₂ : List ℕ}
-            (s : Stepped (Changed v g) now (f (tableOf now nodes₁ children₁ cuts₁) x) d nodes₁ children₁ cuts₁ memo₁ nodes₂ children₂ cuts₂ index₂ memo₂) {left₂ : ℕ} (el : (d .ok ≡ true → left₂ ≡ left - 1) × (d .ok ≡ false → left₂ ≡ 0)) where
+        module _ {k : ℕ} (rk : i + 1 < a .count → k ≡ cutSeen (st₁ .cuts) u a i) {d : code.Made} {nodes₂ children₂ : List ℕ} {cuts₂ : List ℤ} {index₂ memo₂ : List ℕ}
+            (s : Stepped (Changed v g) now (f (tableOf now st₁) x) d st₁ memo₁ nodes₂ children₂ cuts₂ index₂ memo₂) {left₂ : ℕ} (el : (d .ok ≡ true → left₂ ≡ left - 1) × (d .ok ≡ false → left₂ ≡ 0)) where
           -- after it,
-          pub steps : Gather f h nodes children cuts memo a u (Changed v g) (d .head) nodes₂ children₂ cuts₂ index₂ memo₂ (record { list = set (out .list) i (record { cut = k; child = d .id; spare = 0 }); len = out .len }) (d .ok) left₂
-          steps = gather-step f h nodes children cuts memo a u own-grows (e .ready) own-side m own-made l on ei rx rk s el
+          pub steps : Gather f h st memo a u (Changed v g) (d .head) nodes₂ children₂ cuts₂ index₂ memo₂ (record { list = set (out .list) i (record { cut = k; child = d .id; spare = 0 }); len = out .len }) (d .ok) left₂
+          steps = gather-step f h st memo a u own-grows (e .ready) own-side m own-made l on ei rx rk s el
 
           pub loop-falls : left₂ < left
-          loop-falls = gather-falls f h nodes children cuts memo a u own-grows (e .ready) own-side m own-made l on ei rx rk s el
+          loop-falls = gather-falls f h st memo a u own-grows (e .ready) own-side m own-made l on ei rx rk s el
 
     -- and after the last.
     module _ (off : left ≡ 0) where
-      pub merges : ok ≡ true → Mergeable (tableOf now nodes₁ children₁ cuts₁) u (record { list = out .list; len = a .count })
-      merges = can-merge f h nodes children cuts memo a u own-grows (e .ready) own-side m own-made l off
+      pub merges : ok ≡ true → Mergeable (tableOf now st₁) u (record { list = out .list; len = a .count })
+      merges = can-merge f h st memo a u own-grows (e .ready) own-side m own-made l off
 
-      pub arrives : {o : code.Made} {nodes₂ children₂ : List ℕ} {cuts₂ : List ℤ} {index₂ memo₂ : List ℕ} → NodeOver ok now id u (record { list = out .list; len = a .count }) nodes₁ children₁ cuts₁ index₁ memo₁ o nodes₂ children₂ cuts₂ index₂ memo₂
-          → Stepped (Changed v g) h (changed v g (tableOf h nodes children cuts) id) o nodes children cuts memo nodes₂ children₂ cuts₂ index₂ memo₂
+      pub arrives : {o : code.Made} {nodes₂ children₂ : List ℕ} {cuts₂ : List ℤ} {index₂ memo₂ : List ℕ} → NodeOver ok now id u (record { list = out .list; len = a .count }) st₁ index₁ memo₁ o nodes₂ children₂ cuts₂ index₂ memo₂
+          → Stepped (Changed v g) h (changed v g (tableOf h st) id) o st memo nodes₂ children₂ cuts₂ index₂ memo₂
       arrives x =
           let o = over-is v (e .known) g (e .changes) (e .ready) (e .asked) (e .before) (e .variable) (e .view) in
-          becomes (gathered f h nodes children cuts memo a u own-grows (e .ready) own-side m own-made l off
+          becomes (gathered f h st memo a u own-grows (e .ready) own-side m own-made l off
           (λ s z p q. noted-is v (e .known) g (e .changes) (e .ready) (e .asked) (p ∙ ap (λ (x : Table × ℕ). x .0) o) (q ∙ ap (λ (x : Table × ℕ). x .1) o)) x) o

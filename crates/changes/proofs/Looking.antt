@@ -17,6 +17,7 @@ use Rattle.table.specs.Held.{held}
 use Rattle.views.specs.declared.View.{View}
 use Rattle.views.specs.Seeing.{Views}
 use Rattle.views.proofs.Sights.{seen-one, childSeen-own}
+use Rattle.table.specs.Layout.{Store}
 
 -- whether an id tests an earlier variable, as the code tests it
 pub before-test : (t : Table) (u v id : ℕ) → u ≡ (at t (ref id)) .var → ltb u v ≡ isBefore t v id
@@ -33,10 +34,10 @@ module _ {v id : ℕ} (e : id < 2) (hv : v < variables) where
   end-not-before t = sym (is-not-before t v id (omega (arith, end-later t)))
 
   -- it stands for itself
-  pub end-seen : {nodes children : List ℕ} {cuts : List ℤ} {u : ℕ} {w : View} → w .id .0 ≡ id → w .count ≡ 1 → Views nodes children cuts u v id w
-  end-seen {nodes} {children} {cuts} {u} {w} i k =
-      let t = held nodes children cuts u in
+  pub end-seen : {st : Store} {u : ℕ} {w : View} → w .id .0 ≡ id → w .count ≡ 1 → Views st u v id w
+  end-seen {st} {u} {w} i k =
+      let t = held st u in
       record {
         inside = record { some = omega arith; most = omega arith; within = λ l. absurd (omega arith) };
-        edges = seen-one children cuts v w k ∙ (ap last (childSeen-own children w 0 k ∙ i) ∙ sym (edge-other t v id (λ q. omega (arith, end-later t))));
+        edges = seen-one (st .children) (st .cuts) v w k ∙ (ap last (childSeen-own (st .children) w 0 k ∙ i) ∙ sym (edge-other t v id (λ q. omega (arith, end-later t))));
       }

@@ -27,6 +27,7 @@ use Rattle.walks.specs.Walking.{Ready}
 use Rattle.walks.proofs.Halves.{half, halves}
 use Rattle.changes.specs.Changed.{Changed, changed, restricting}
 use Rattle.changes.proofs.Down.{here-is}
+use Rattle.table.specs.Layout.{Store}
 
 -- Of one edge or two, the one at position 0 is the high one, and the one at position 1 the low one.
 select-half : {e : Pieces ℕ} {high low : ℕ} → joined.Sides e high low → (value : Bool) → cond value high low ≡ select e (cond value 0 1)
@@ -35,23 +36,23 @@ select-half joined.one false = refl
 select-half joined.two true = refl
 select-half joined.two false = refl
 
-module _ {nodes children : List ℕ} {cuts : List ℤ} {u v id : ℕ} {a : View} (r : Readable nodes children cuts u) (k : KnownTo u id) (b : firstBoolean ≤ v) (hv : v < variables) (x : Views nodes children cuts u v id a) where
+module _ {st : Store} {u v id : ℕ} {a : View} (r : Readable st u) (k : KnownTo u id) (b : firstBoolean ≤ v) (hv : v < variables) (x : Views st u v id a) where
   abbrev t : Table
-  t = held nodes children cuts u
+  t = held st u
 
   -- The edges at v rise, whether the id tests v or not:
-  rises : Rising 0 (topOf v) (seen children cuts v a 0)
+  rises : Rising 0 (topOf v) (seen (st .children) (st .cuts) v a 0)
   rises = go (ℕ-discrete ((at t (ref id)) .var) v)
     where
-      go : Dec ((at t (ref id)) .var ≡ v) → Rising 0 (topOf v) (seen children cuts v a 0)
-      go (yes e) = views-rising nodes children cuts u v id a r hv (known-held nodes children cuts u id k, omega (arith, e)) x
+      go : Dec ((at t (ref id)) .var ≡ v) → Rising 0 (topOf v) (seen (st .children) (st .cuts) v a 0)
+      go (yes e) = views-rising st u v id a r hv (known-held st u id k, omega (arith, e)) x
       go (no n) = subst (Rising 0 (topOf v)) (sym (x .edges ∙ edge-other t v id n)) (omega arith)
 
   -- the child that is read is the one of the value.
-  pub chosen-is : (value : Bool) {c i : ℕ} → c ≡ childSeen children a i → i ≡ half (a .count) (not value) → c ≡ select (edgesOf t v id) (cond value 0 1)
-  chosen-is value e q = e ∙ (ap (childSeen children a) q ∙ (go value ∙ (select-half (halves children cuts v b a (x .inside .some) rises) value ∙ ap (λ (p : Pieces ℕ). select p (cond value 0 1)) (x .edges))))
+  pub chosen-is : (value : Bool) {c i : ℕ} → c ≡ childSeen (st .children) a i → i ≡ half (a .count) (not value) → c ≡ select (edgesOf t v id) (cond value 0 1)
+  chosen-is value e q = e ∙ (ap (childSeen (st .children) a) q ∙ (go value ∙ (select-half (halves (st .children) (st .cuts) v b a (x .inside .some) rises) value ∙ ap (λ (p : Pieces ℕ). select p (cond value 0 1)) (x .edges))))
     where
-      go : (value : Bool) → childSeen children a (half (a .count) (not value)) ≡ cond value (childSeen children a 0) (childSeen children a (a .count - 1))
+      go : (value : Bool) → childSeen (st .children) a (half (a .count) (not value)) ≡ cond value (childSeen (st .children) a 0) (childSeen (st .children) a (a .count - 1))
       go true = refl
       go false = refl
 
@@ -60,9 +61,9 @@ abbrev pub restricts : (v : ℕ) (value : Bool) → Changes v (restricting value
 restricts v value = fixed-changes v (cond value 0 1)
 
 -- At the variable, or past it, the child of the value is the answer, and no node is made.
-pub chosen-here : {v : ℕ} (hv : v < variables) (value : Bool) {h : Head} {nodes children : List ℕ} {cuts : List ℤ} {index memo : List ℕ} → Ready (Changed v (restricting value)) h nodes children cuts index memo
-    → {n id : ℕ} → Asked (tableOf h nodes children cuts) (h .used) n id → {before : Bool} → before ≡ isBefore (tableOf h nodes children cuts) v id → before ≡ false
-    → {c : ℕ} → c ≡ select (edgesOf (tableOf h nodes children cuts) v id) (cond value 0 1) → changed v (restricting value) (tableOf h nodes children cuts) id ≡ (tableOf h nodes children cuts, c)
-chosen-here {v} hv value {h} {nodes} {children} {cuts} r {n} {id} q e f {c} p =
-    let t = tableOf h nodes children cuts in
+pub chosen-here : {v : ℕ} (hv : v < variables) (value : Bool) {h : Head} {st : Store} {index memo : List ℕ} → Ready (Changed v (restricting value)) h st index memo
+    → {n id : ℕ} → Asked (tableOf h st) (h .used) n id → {before : Bool} → before ≡ isBefore (tableOf h st) v id → before ≡ false
+    → {c : ℕ} → c ≡ select (edgesOf (tableOf h st) v id) (cond value 0 1) → changed v (restricting value) (tableOf h st) id ≡ (tableOf h st, c)
+chosen-here {v} hv value {h} {st} r {n} {id} q e f {c} p =
+    let t = tableOf h st in
     sym (here-is v hv (restricting value) (restricts v value) r q (sym e ∙ f)) ∙ (create-last t v _ ∙ ap (λ (x : ℕ). (t, x)) (sym p))

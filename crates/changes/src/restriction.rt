@@ -9,7 +9,7 @@ ghost use Rattle.diagram.specs.Table.{firstBoolean, variables};
 ghost use Rattle.diagram.specs.Cofactor.{edgesOf};
 ghost use Rattle.algebra.specs.Changing.{restrict as restriction};
 ghost use Rattle.table.specs.Held.{held};
-ghost use Rattle.table.specs.Layout.{room};
+ghost use Rattle.table.specs.Layout.{room, store};
 ghost use Rattle.making.specs.Outcome.{Lent, tableOf};
 ghost use Rattle.views.specs.Seeing.{Readable, Asked};
 ghost use Rattle.walks.specs.Walking.{Ready, Stepped, Worked};
@@ -23,6 +23,7 @@ use making::nodes::Head;
 use making::nodes::Made;
 use table::fresh::zero_words;
 use table::limits::FIRST_BOOLEAN;
+use table::limits::RECORD_WORDS;
 use table::limits::VARIABLES;
 use views::child;
 use views::variable;
@@ -47,8 +48,8 @@ pub fn restrict(
     v: usize,
     value: bool,
 ) -> Made
-    requires { ⌜ (Lent head (now nodes) (now children) (now cuts) (now index)) × (length (now memo) ≡ room (now nodes) * 3) × (KnownTo (head .used) (id .0)) × (v < variables) ⌝ }
-    ensures { λ r. ⌜ Worked head (restriction (tableOf head (now (nodes .entry)) (now (children .entry)) (now (cuts .entry))) v value (id .0)) r (now (nodes .entry)) (now (children .entry)) (now (cuts .entry)) (now (index .entry)) (now (memo .entry)) (now (nodes .exit)) (now (children .exit)) (now (cuts .exit)) (now (index .exit)) (now (memo .exit)) ⌝ }
+    requires { ⌜ (Lent head (store (now nodes) (now children) (now cuts)) (now index)) × (length (now memo) ≡ room (now nodes) * 3) × (KnownTo (head .used) (id .0)) × (v < variables) ⌝ }
+    ensures { λ r. ⌜ Worked head (restriction (tableOf head (store (now (nodes .entry)) (now (children .entry)) (now (cuts .entry)))) v value (id .0)) r (store (now (nodes .entry)) (now (children .entry)) (now (cuts .entry))) (now (index .entry)) (now (memo .entry)) (store (now (nodes .exit)) (now (children .exit)) (now (cuts .exit))) (now (index .exit)) (now (memo .exit)) ⌝ }
 {
     zero_words(memo);
     if v < FIRST_BOOLEAN {
@@ -79,8 +80,8 @@ fn chosen(
     v: usize,
     value: bool,
 ) -> NodeId
-    requires { ⌜ (Readable (now nodes) (now children) (now cuts) used) × (KnownTo used (id .0)) × (firstBoolean ≤ v) × (v < variables) ⌝ }
-    ensures { λ r. ⌜ r .0 ≡ select (edgesOf (held (now (nodes .entry)) (now (children .entry)) (now (cuts .entry)) used) v (id .0)) (cond value 0 1) ⌝ }
+    requires { ⌜ (Readable (store (now nodes) (now children) (now cuts)) used) × (KnownTo used (id .0)) × (firstBoolean ≤ v) × (v < variables) ⌝ }
+    ensures { λ r. ⌜ r .0 ≡ select (edgesOf (held (store (now (nodes .entry)) (now (children .entry)) (now (cuts .entry))) used) v (id .0)) (cond value 0 1) ⌝ }
 {
     let a = view_at(nodes, children, cuts, used, id, v);
     let low = !value;
@@ -101,8 +102,8 @@ pub fn restrict_from(
     value: bool,
     ahead: usize,
 ) -> Made
-    requires { ⌜ (Ready (Changed v (restricting value)) head (now nodes) (now children) (now cuts) (now index) (now memo)) × (Asked (tableOf head (now nodes) (now children) (now cuts)) (head .used) ahead (id .0)) × (firstBoolean ≤ v) × (v < variables) ⌝ }
-    ensures { λ r. ⌜ Stepped (Changed v (restricting value)) head (changed v (restricting value) (tableOf head (now (nodes .entry)) (now (children .entry)) (now (cuts .entry))) (id .0)) r (now (nodes .entry)) (now (children .entry)) (now (cuts .entry)) (now (memo .entry)) (now (nodes .exit)) (now (children .exit)) (now (cuts .exit)) (now (index .exit)) (now (memo .exit)) ⌝ }
+    requires { ⌜ (Ready (Changed v (restricting value)) head (store (now nodes) (now children) (now cuts)) (now index) (now memo)) × (Asked (tableOf head (store (now nodes) (now children) (now cuts))) (head .used) ahead (id .0)) × (firstBoolean ≤ v) × (v < variables) ⌝ }
+    ensures { λ r. ⌜ Stepped (Changed v (restricting value)) head (changed v (restricting value) (tableOf head (store (now (nodes .entry)) (now (children .entry)) (now (cuts .entry)))) (id .0)) r (store (now (nodes .entry)) (now (children .entry)) (now (cuts .entry))) (now (memo .entry)) (store (now (nodes .exit)) (now (children .exit)) (now (cuts .exit))) (now (index .exit)) (now (memo .exit)) ⌝ }
 {
     if !is_before(nodes, children, cuts, head.used, id, v) {
         let to = chosen(nodes, children, cuts, head.used, id, v, value);
@@ -112,7 +113,7 @@ pub fn restrict_from(
             head,
         };
     }
-    let s = recall(memo, nodes.len() / 4, id, NodeId::TRUE);
+    let s = recall(memo, nodes.len() / RECORD_WORDS, id, NodeId::TRUE);
     if s.done {
         let id = s.id;
         return Made { ok: true, id, head };

@@ -8,6 +8,7 @@ ghost use Rattle.diagram.specs.Table.{variables};
 ghost use Rattle.algebra.specs.Changing.{isBefore};
 ghost use Rattle.table.specs.Held.{held};
 ghost use Rattle.views.specs.Seeing.{Readable, Views};
+ghost use Rattle.table.specs.Layout.{store};
 use ids::NodeId;
 use ranges::bounds::Bound;
 use views::View;
@@ -23,8 +24,8 @@ pub fn is_before(
     id: NodeId,
     v: usize,
 ) -> bool
-    requires { ⌜ (Readable (now nodes) (now children) (now cuts) used) × (KnownTo used (id .0)) × (v < variables) ⌝ }
-    ensures { λ r. ⌜ r ≡ isBefore (held (now (nodes .entry)) (now (children .entry)) (now (cuts .entry)) used) v (id .0) ⌝ }
+    requires { ⌜ (Readable (store (now nodes) (now children) (now cuts)) used) × (KnownTo used (id .0)) × (v < variables) ⌝ }
+    ensures { λ r. ⌜ r ≡ isBefore (held (store (now (nodes .entry)) (now (children .entry)) (now (cuts .entry))) used) v (id .0) ⌝ }
 {
     if id.0 < 2 {
         return false;
@@ -41,8 +42,8 @@ pub fn view_at(
     id: NodeId,
     v: usize,
 ) -> View
-    requires { ⌜ (Readable (now nodes) (now children) (now cuts) used) × (KnownTo used (id .0)) × (v < variables) ⌝ }
-    ensures { λ r. ⌜ Views (now (nodes .entry)) (now (children .entry)) (now (cuts .entry)) used v (id .0) r ⌝ }
+    requires { ⌜ (Readable (store (now nodes) (now children) (now cuts)) used) × (KnownTo used (id .0)) × (v < variables) ⌝ }
+    ensures { λ r. ⌜ Views (store (now (nodes .entry)) (now (children .entry)) (now (cuts .entry))) used v (id .0) r ⌝ }
 {
     if id.0 < 2 {
         return View {

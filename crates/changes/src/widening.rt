@@ -9,7 +9,7 @@ ghost use Rattle.diagram.specs.Table.{firstBoolean, variables};
 ghost use Rattle.diagram.specs.Cofactor.{edgesOf};
 ghost use Rattle.algebra.specs.Making.{create-node};
 ghost use Rattle.algebra.specs.Changing.{isBefore, widen as widens};
-ghost use Rattle.table.specs.Layout.{room};
+ghost use Rattle.table.specs.Layout.{room, store};
 ghost use Rattle.making.specs.Outcome.{Lent, Outcome, tableOf};
 ghost use Rattle.views.specs.Seeing.{Asked};
 ghost use Rattle.walks.specs.Walking.{Ready, Stepped, Worked};
@@ -26,6 +26,7 @@ use making::nodes::create_node;
 use ranges::bounds::Bound;
 use ranges::spans::Range;
 use table::fresh::zero_words;
+use table::limits::RECORD_WORDS;
 use table::limits::VARIABLES;
 use views::child;
 use views::variable;
@@ -50,8 +51,8 @@ pub fn widen(
     lower: Bound,
     upper: Bound,
 ) -> Made
-    requires { ⌜ (Lent head (now nodes) (now children) (now cuts) (now index)) × (length (now memo) ≡ room (now nodes) * 3) × (KnownTo (head .used) (id .0)) × (v < firstBoolean) ⌝ }
-    ensures { λ r. ⌜ Worked head (widens (tableOf head (now (nodes .entry)) (now (children .entry)) (now (cuts .entry))) v lower upper (id .0)) r (now (nodes .entry)) (now (children .entry)) (now (cuts .entry)) (now (index .entry)) (now (memo .entry)) (now (nodes .exit)) (now (children .exit)) (now (cuts .exit)) (now (index .exit)) (now (memo .exit)) ⌝ }
+    requires { ⌜ (Lent head (store (now nodes) (now children) (now cuts)) (now index)) × (length (now memo) ≡ room (now nodes) * 3) × (KnownTo (head .used) (id .0)) × (v < firstBoolean) ⌝ }
+    ensures { λ r. ⌜ Worked head (widens (tableOf head (store (now (nodes .entry)) (now (children .entry)) (now (cuts .entry)))) v lower upper (id .0)) r (store (now (nodes .entry)) (now (children .entry)) (now (cuts .entry))) (now (index .entry)) (now (memo .entry)) (store (now (nodes .exit)) (now (children .exit)) (now (cuts .exit))) (now (index .exit)) (now (memo .exit)) ⌝ }
 {
     zero_words(memo);
     if both_open(lower, upper) {
@@ -92,8 +93,8 @@ fn widen_here(
     v: usize,
     range: Range,
 ) -> Made
-    requires { ⌜ (Lent head (now nodes) (now children) (now cuts) (now index)) × (KnownTo (head .used) (id .0)) × (isBefore (tableOf head (now nodes) (now children) (now cuts)) v (id .0) ≡ false) × (v < firstBoolean) × (range .first ≤ range .last) × (range .last ≤ top) ⌝ }
-    ensures { λ r. ⌜ Outcome head (create-node (tableOf head (now (nodes .entry)) (now (children .entry)) (now (cuts .entry))) v (widening v range (edgesOf (tableOf head (now (nodes .entry)) (now (children .entry)) (now (cuts .entry))) v (id .0)))) r (now (nodes .entry)) (now (children .entry)) (now (cuts .entry)) (now (nodes .exit)) (now (children .exit)) (now (cuts .exit)) (now (index .exit)) ⌝ }
+    requires { ⌜ (Lent head (store (now nodes) (now children) (now cuts)) (now index)) × (KnownTo (head .used) (id .0)) × (isBefore (tableOf head (store (now nodes) (now children) (now cuts))) v (id .0) ≡ false) × (v < firstBoolean) × (range .first ≤ range .last) × (range .last ≤ top) ⌝ }
+    ensures { λ r. ⌜ Outcome head (create-node (tableOf head (store (now (nodes .entry)) (now (children .entry)) (now (cuts .entry)))) v (widening v range (edgesOf (tableOf head (store (now (nodes .entry)) (now (children .entry)) (now (cuts .entry)))) v (id .0)))) r (store (now (nodes .entry)) (now (children .entry)) (now (cuts .entry))) (store (now (nodes .exit)) (now (children .exit)) (now (cuts .exit))) (now (index .exit)) ⌝ }
 {
     let a = view_at(nodes, children, cuts, head.used, id, v);
     let c = clipping::widened(children, cuts, a, range);
@@ -121,13 +122,13 @@ pub fn widen_from(
     range: Range,
     ahead: usize,
 ) -> Made
-    requires { ⌜ (Ready (Changed v (widening v range)) head (now nodes) (now children) (now cuts) (now index) (now memo)) × (Asked (tableOf head (now nodes) (now children) (now cuts)) (head .used) ahead (id .0)) × (v < firstBoolean) × (range .first ≤ range .last) × (range .last ≤ top) ⌝ }
-    ensures { λ r. ⌜ Stepped (Changed v (widening v range)) head (changed v (widening v range) (tableOf head (now (nodes .entry)) (now (children .entry)) (now (cuts .entry))) (id .0)) r (now (nodes .entry)) (now (children .entry)) (now (cuts .entry)) (now (memo .entry)) (now (nodes .exit)) (now (children .exit)) (now (cuts .exit)) (now (index .exit)) (now (memo .exit)) ⌝ }
+    requires { ⌜ (Ready (Changed v (widening v range)) head (store (now nodes) (now children) (now cuts)) (now index) (now memo)) × (Asked (tableOf head (store (now nodes) (now children) (now cuts))) (head .used) ahead (id .0)) × (v < firstBoolean) × (range .first ≤ range .last) × (range .last ≤ top) ⌝ }
+    ensures { λ r. ⌜ Stepped (Changed v (widening v range)) head (changed v (widening v range) (tableOf head (store (now (nodes .entry)) (now (children .entry)) (now (cuts .entry)))) (id .0)) r (store (now (nodes .entry)) (now (children .entry)) (now (cuts .entry))) (now (memo .entry)) (store (now (nodes .exit)) (now (children .exit)) (now (cuts .exit))) (now (index .exit)) (now (memo .exit)) ⌝ }
 {
     if !is_before(nodes, children, cuts, head.used, id, v) {
         return widen_here(nodes, children, cuts, index, head, id, v, range);
     }
-    let s = recall(memo, nodes.len() / 4, id, NodeId::TRUE);
+    let s = recall(memo, nodes.len() / RECORD_WORDS, id, NodeId::TRUE);
     if s.done {
         let id = s.id;
         return Made { ok: true, id, head };

@@ -29,6 +29,7 @@ use Rattle.making.specs.declared.nodes.Made.{Made}
 use Rattle.making.specs.Building.{Building, piecesOf}
 use Rattle.making.specs.Outcome.{Outcome, Untouched, Buildable}
 use Rattle.conditions.proofs.Terminals.{reduced-between, terminals-buildable, terminals-settle}
+use Rattle.table.specs.Layout.{Store}
 
 -- The edges of a range of positions, at a range variable: its top is that of the line.
 module _ (t : Table) {v : ℕ} (hv : v < firstBoolean) {es : built.Edges} (lo hi : ℕ) (b : Building es × (piecesOf es ≡ map terminal (between lo hi top))) (l : lo ≤ top) where
@@ -54,23 +55,23 @@ pub key-handed : {op : Comparison} {key : ℤ} {c : Compared} → SFits w32 key 
 key-handed {key = key} f k = rw (toZ-ofZ w32 key f) at k
 
 -- What a making function of one node promises.
-abbrev pub Promised : Head → List ℕ → List ℕ → List ℤ → List ℕ → List ℕ → List ℕ → List ℤ → List ℕ → Table × ℕ → Made → Type 0
-Promised h nodes children cuts index nodes′ children′ cuts′ index′ want r =
-    Outcome h want r nodes children cuts nodes′ children′ cuts′ index′ × (r .ok ≡ false → Untouched nodes children cuts index nodes′ children′ cuts′ index′)
+abbrev pub Promised : Head → Store → List ℕ → Store → List ℕ → Table × ℕ → Made → Type 0
+Promised h st index st′ index′ want r =
+    Outcome h want r st st′ index′ × (r .ok ≡ false → Untouched st index st′ index′)
 
-module _ {h : Head} {nodes children : List ℕ} {cuts : List ℤ} {index nodes′ children′ : List ℕ} {cuts′ : List ℤ} {index′ : List ℕ} where
+module _ {h : Head} {st : Store} {index : List ℕ} {st′ : Store} {index′ : List ℕ} where
   -- What is promised under one name is promised under another.
-  pub promised-as : {want other : Table × ℕ} {r : Made} → Promised h nodes children cuts index nodes′ children′ cuts′ index′ want r → want ≡ other → Promised h nodes children cuts index nodes′ children′ cuts′ index′ other r
-  promised-as {r = r} p e = subst (λ (w : Table × ℕ). Promised h nodes children cuts index nodes′ children′ cuts′ index′ w r) e p
+  pub promised-as : {want other : Table × ℕ} {r : Made} → Promised h st index st′ index′ want r → want ≡ other → Promised h st index st′ index′ other r
+  promised-as {r = r} p e = subst (λ (w : Table × ℕ). Promised h st index st′ index′ w r) e p
 
-  module _ (t : Table) (v : ℕ) {op : Comparison} {key : ℤ} {c : Compared} (k : Compares op key c) {r : Made} (p : Promised h nodes children cuts index nodes′ children′ cuts′ index′ (create-node t v (map terminal (between (c .range .first) (c .range .last) (topOf v)))) r) where
+  module _ (t : Table) (v : ℕ) {op : Comparison} {key : ℤ} {c : Compared} (k : Compares op key c) {r : Made} (p : Promised h st index st′ index′ (create-node t v (map terminal (between (c .range .first) (c .range .last) (topOf v)))) r) where
     -- A comparison that holds inside its range is that range,
-    pub inside-wanted : c .outside ≡ false → Promised h nodes children cuts index nodes′ children′ cuts′ index′ (comparison t v op key) r
+    pub inside-wanted : c .outside ≡ false → Promised h st index st′ index′ (comparison t v op key) r
     unfolding comparison
     inside-wanted e = let o = sym (k .side) ∙ e in rw o (promised-as p (range-wanted t v (k .between)))
 
     -- != is it flipped,
-    pub outside-wanted : c .outside ≡ true → r .ok ≡ true → (id : NodeId) → id .0 ≡ flip (r .id .0) → Promised h nodes children cuts index nodes′ children′ cuts′ index′ (comparison t v op key) (record { ok = true; id = id; head = r .head })
+    pub outside-wanted : c .outside ≡ true → r .ok ≡ true → (id : NodeId) → id .0 ≡ flip (r .id .0) → Promised h st index st′ index′ (comparison t v op key) (record { ok = true; id = id; head = r .head })
     unfolding comparison
     outside-wanted e y id q =
         let o = sym (k .side) ∙ e in
@@ -78,7 +79,7 @@ module _ {h : Head} {nodes children : List ℕ} {cuts : List ℤ} {index nodes�
         rw o (record { lent = w .lent; stays = w .stays; table = λ x. w .table y; id = λ x. q ∙ ap flip (w .id y); full = λ x. absurd (clash x refl) }, λ x. absurd (clash x refl))
 
     -- and where there is no room for it there is none for either.
-    pub full-wanted : r .ok ≡ false → Promised h nodes children cuts index nodes′ children′ cuts′ index′ (comparison t v op key) r
+    pub full-wanted : r .ok ≡ false → Promised h st index st′ index′ (comparison t v op key) r
     unfolding comparison
     full-wanted n =
         let w = promised-as p (range-wanted t v (k .between)) in

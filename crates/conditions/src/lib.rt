@@ -11,6 +11,7 @@ ghost use Rattle.algebra.specs.Conditions.{between, terminal, from-range, compa
 ghost use Rattle.making.specs.Building.{Building, piecesOf};
 ghost use Rattle.making.specs.Outcome.{Lent, Outcome, Untouched, tableOf};
 ghost use Rattle.conditions.specs.Few.{few};
+ghost use Rattle.table.specs.Layout.{store};
 use ids::NodeId;
 use making::edges::Edge;
 use making::edges::Edges;
@@ -79,8 +80,8 @@ fn within(
     v: usize,
     range: Range,
 ) -> Made
-    requires { ⌜ (Lent head (now nodes) (now children) (now cuts) (now index)) × (v < firstBoolean) × (range .first ≤ top) × (range .last ≤ top) ⌝ }
-    ensures { λ r. ⌜ (Outcome head (create-node (tableOf head (now (nodes .entry)) (now (children .entry)) (now (cuts .entry))) v (map terminal (between (range .first) (range .last) (topOf v)))) r (now (nodes .entry)) (now (children .entry)) (now (cuts .entry)) (now (nodes .exit)) (now (children .exit)) (now (cuts .exit)) (now (index .exit))) × (r .ok ≡ false → Untouched (now (nodes .entry)) (now (children .entry)) (now (cuts .entry)) (now (index .entry)) (now (nodes .exit)) (now (children .exit)) (now (cuts .exit)) (now (index .exit))) ⌝ }
+    requires { ⌜ (Lent head (store (now nodes) (now children) (now cuts)) (now index)) × (v < firstBoolean) × (range .first ≤ top) × (range .last ≤ top) ⌝ }
+    ensures { λ r. ⌜ (Outcome head (create-node (tableOf head (store (now (nodes .entry)) (now (children .entry)) (now (cuts .entry)))) v (map terminal (between (range .first) (range .last) (topOf v)))) r (store (now (nodes .entry)) (now (children .entry)) (now (cuts .entry))) (store (now (nodes .exit)) (now (children .exit)) (now (cuts .exit))) (now (index .exit))) × (r .ok ≡ false → Untouched (store (now (nodes .entry)) (now (children .entry)) (now (cuts .entry))) (now (index .entry)) (store (now (nodes .exit)) (now (children .exit)) (now (cuts .exit))) (now (index .exit))) ⌝ }
 {
     let es = edges_of(range);
     create_node(nodes, children, cuts, index, head, v, es)
@@ -97,8 +98,8 @@ pub fn from_range(
     lower: Bound,
     upper: Bound,
 ) -> Made
-    requires { ⌜ (Lent head (now nodes) (now children) (now cuts) (now index)) × (v < firstBoolean) ⌝ }
-    ensures { λ r. ⌜ (Outcome head (from-range (tableOf head (now (nodes .entry)) (now (children .entry)) (now (cuts .entry))) v lower upper) r (now (nodes .entry)) (now (children .entry)) (now (cuts .entry)) (now (nodes .exit)) (now (children .exit)) (now (cuts .exit)) (now (index .exit))) × (r .ok ≡ false → Untouched (now (nodes .entry)) (now (children .entry)) (now (cuts .entry)) (now (index .entry)) (now (nodes .exit)) (now (children .exit)) (now (cuts .exit)) (now (index .exit))) ⌝ }
+    requires { ⌜ (Lent head (store (now nodes) (now children) (now cuts)) (now index)) × (v < firstBoolean) ⌝ }
+    ensures { λ r. ⌜ (Outcome head (from-range (tableOf head (store (now (nodes .entry)) (now (children .entry)) (now (cuts .entry)))) v lower upper) r (store (now (nodes .entry)) (now (children .entry)) (now (cuts .entry))) (store (now (nodes .exit)) (now (children .exit)) (now (cuts .exit))) (now (index .exit))) × (r .ok ≡ false → Untouched (store (now (nodes .entry)) (now (children .entry)) (now (cuts .entry))) (now (index .entry)) (store (now (nodes .exit)) (now (children .exit)) (now (cuts .exit))) (now (index .exit))) ⌝ }
 {
     let range = Range::from_bounds(lower, upper);
     within(nodes, children, cuts, index, head, v, range)
@@ -115,8 +116,8 @@ pub fn from_comparison(
     op: Comparison,
     key: i32,
 ) -> Made
-    requires { ⌜ (Lent head (now nodes) (now children) (now cuts) (now index)) × (v < firstBoolean) ⌝ }
-    ensures { λ r. ⌜ (Outcome head (comparison (tableOf head (now (nodes .entry)) (now (children .entry)) (now (cuts .entry))) v op key) r (now (nodes .entry)) (now (children .entry)) (now (cuts .entry)) (now (nodes .exit)) (now (children .exit)) (now (cuts .exit)) (now (index .exit))) × (r .ok ≡ false → Untouched (now (nodes .entry)) (now (children .entry)) (now (cuts .entry)) (now (index .entry)) (now (nodes .exit)) (now (children .exit)) (now (cuts .exit)) (now (index .exit))) ⌝ }
+    requires { ⌜ (Lent head (store (now nodes) (now children) (now cuts)) (now index)) × (v < firstBoolean) ⌝ }
+    ensures { λ r. ⌜ (Outcome head (comparison (tableOf head (store (now (nodes .entry)) (now (children .entry)) (now (cuts .entry)))) v op key) r (store (now (nodes .entry)) (now (children .entry)) (now (cuts .entry))) (store (now (nodes .exit)) (now (children .exit)) (now (cuts .exit))) (now (index .exit))) × (r .ok ≡ false → Untouched (store (now (nodes .entry)) (now (children .entry)) (now (cuts .entry))) (now (index .entry)) (store (now (nodes .exit)) (now (children .exit)) (now (cuts .exit))) (now (index .exit))) ⌝ }
 {
     let compared = ranges::spans::from_comparison(op, key);
     let range = compared.range;
@@ -142,8 +143,8 @@ pub fn from_bool(
     head: Head,
     v: usize,
 ) -> Made
-    requires { ⌜ (Lent head (now nodes) (now children) (now cuts) (now index)) × (firstBoolean ≤ v) × (v < variables) ⌝ }
-    ensures { λ r. ⌜ (Outcome head (from-bool (tableOf head (now (nodes .entry)) (now (children .entry)) (now (cuts .entry))) v) r (now (nodes .entry)) (now (children .entry)) (now (cuts .entry)) (now (nodes .exit)) (now (children .exit)) (now (cuts .exit)) (now (index .exit))) × (r .ok ≡ false → Untouched (now (nodes .entry)) (now (children .entry)) (now (cuts .entry)) (now (index .entry)) (now (nodes .exit)) (now (children .exit)) (now (cuts .exit)) (now (index .exit))) ⌝ }
+    requires { ⌜ (Lent head (store (now nodes) (now children) (now cuts)) (now index)) × (firstBoolean ≤ v) × (v < variables) ⌝ }
+    ensures { λ r. ⌜ (Outcome head (from-bool (tableOf head (store (now (nodes .entry)) (now (children .entry)) (now (cuts .entry)))) v) r (store (now (nodes .entry)) (now (children .entry)) (now (cuts .entry))) (store (now (nodes .exit)) (now (children .exit)) (now (cuts .exit))) (now (index .exit))) × (r .ok ≡ false → Untouched (store (now (nodes .entry)) (now (children .entry)) (now (cuts .entry))) (now (index .entry)) (store (now (nodes .exit)) (now (children .exit)) (now (cuts .exit))) (now (index .exit))) ⌝ }
 {
     let high = NodeId::TRUE;
     let low = NodeId::FALSE;

@@ -15,6 +15,7 @@ use Rattle.making.specs.Outcome.{tableOf}
 use Rattle.walks.specs.Walking.{Stepped, both}
 use Rattle.walks.proofs.Composing.{becomes}
 use Rattle.conjunction.specs.Joining.{Entry, pairs}
+use Rattle.table.specs.Layout.{Store}
 
 range-order : (v : ℕ) → v < firstBoolean → (z : Bool) → false ≡ (not (isRange v) && z)
 range-order v h z = rw (lt-ltb v firstBoolean h) refl
@@ -22,9 +23,9 @@ range-order v h z = rw (lt-ltb v firstBoolean h) refl
 bool-order : (v : ℕ) → firstBoolean ≤ v → (z : Bool) → z ≡ (not (isRange v) && z)
 bool-order v h z = rw (le-ltb v firstBoolean h) refl
 
-module _ (h : Head) (nodes children : List ℕ) (cuts : List ℤ) (memo : List ℕ) (a b : View) (v n : ℕ) {m : Made} {nodes′ children′ : List ℕ} {cuts′ : List ℤ} {index′ memo′ : List ℕ} where
-  pub left-to-right : v < firstBoolean → Stepped Entry h (both false (pairs n) (tableOf h nodes children cuts) v (seen children cuts v a 0) (seen children cuts v b 0)) m nodes children cuts memo nodes′ children′ cuts′ index′ memo′ → Stepped Entry h (both (not (isRange v) && not (eqb (a .count) (b .count))) (pairs n) (tableOf h nodes children cuts) v (seen children cuts v a 0) (seen children cuts v b 0)) m nodes children cuts memo nodes′ children′ cuts′ index′ memo′
-  left-to-right l c = becomes c (ap (λ (back : Bool). both back (pairs n) (tableOf h nodes children cuts) v (seen children cuts v a 0) (seen children cuts v b 0)) (range-order v l (not (eqb (a .count) (b .count)))))
+module _ (h : Head) (st : Store) (memo : List ℕ) (a b : View) (v n : ℕ) {m : Made} {st′ : Store} {index′ memo′ : List ℕ} where
+  pub left-to-right : v < firstBoolean → Stepped Entry h (both false (pairs n) (tableOf h st) v (seen (st .children) (st .cuts) v a 0) (seen (st .children) (st .cuts) v b 0)) m st memo st′ index′ memo′ → Stepped Entry h (both (not (isRange v) && not (eqb (a .count) (b .count))) (pairs n) (tableOf h st) v (seen (st .children) (st .cuts) v a 0) (seen (st .children) (st .cuts) v b 0)) m st memo st′ index′ memo′
+  left-to-right l c = becomes c (ap (λ (back : Bool). both back (pairs n) (tableOf h st) v (seen (st .children) (st .cuts) v a 0) (seen (st .children) (st .cuts) v b 0)) (range-order v l (not (eqb (a .count) (b .count)))))
 
-  pub by-tests : firstBoolean ≤ v → Stepped Entry h (both (not (eqb (a .count) (b .count))) (pairs n) (tableOf h nodes children cuts) v (seen children cuts v a 0) (seen children cuts v b 0)) m nodes children cuts memo nodes′ children′ cuts′ index′ memo′ → Stepped Entry h (both (not (isRange v) && not (eqb (a .count) (b .count))) (pairs n) (tableOf h nodes children cuts) v (seen children cuts v a 0) (seen children cuts v b 0)) m nodes children cuts memo nodes′ children′ cuts′ index′ memo′
-  by-tests l c = becomes c (ap (λ (back : Bool). both back (pairs n) (tableOf h nodes children cuts) v (seen children cuts v a 0) (seen children cuts v b 0)) (bool-order v l (not (eqb (a .count) (b .count)))))
+  pub by-tests : firstBoolean ≤ v → Stepped Entry h (both (not (eqb (a .count) (b .count))) (pairs n) (tableOf h st) v (seen (st .children) (st .cuts) v a 0) (seen (st .children) (st .cuts) v b 0)) m st memo st′ index′ memo′ → Stepped Entry h (both (not (isRange v) && not (eqb (a .count) (b .count))) (pairs n) (tableOf h st) v (seen (st .children) (st .cuts) v a 0) (seen (st .children) (st .cuts) v b 0)) m st memo st′ index′ memo′
+  by-tests l c = becomes c (ap (λ (back : Bool). both back (pairs n) (tableOf h st) v (seen (st .children) (st .cuts) v a 0) (seen (st .children) (st .cuts) v b 0)) (bool-order v l (not (eqb (a .count) (b .count)))))

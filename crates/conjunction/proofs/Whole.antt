@@ -10,10 +10,11 @@ use Rattle.algebra.specs.Conjunction.{and, or}
 use Rattle.making.specs.declared.nodes.Head.{Head}
 use Rattle.making.specs.declared.nodes.Made.{Made}
 use Rattle.walks.specs.Walking.{Worked}
+use Rattle.table.specs.Layout.{Store}
 
-pub or-joined : {h : Head} (t : Table) (x y : ℕ) {m : Made} {nodes children : List ℕ} {cuts : List ℤ} {index memo nodes′ children′ : List ℕ} {cuts′ : List ℤ} {index′ memo′ : List ℕ} (i j : ℕ) → i ≡ flip x → j ≡ flip y
-    → Worked h (and t i j) m nodes children cuts index memo nodes′ children′ cuts′ index′ memo′ → (id : NodeId) → id .0 ≡ flip (m .id .0)
-    → Worked h (or t x y) (record { ok = m .ok; id = id; head = m .head }) nodes children cuts index memo nodes′ children′ cuts′ index′ memo′
+pub or-joined : {h : Head} (t : Table) (x y : ℕ) {m : Made} {st : Store} {index memo : List ℕ} {st′ : Store} {index′ memo′ : List ℕ} (i j : ℕ) → i ≡ flip x → j ≡ flip y
+    → Worked h (and t i j) m st index memo st′ index′ memo′ → (id : NodeId) → id .0 ≡ flip (m .id .0)
+    → Worked h (or t x y) (record { ok = m .ok; id = id; head = m .head }) st index memo st′ index′ memo′
 unfolding or
 or-joined t x y i j p q c id e = record {
   outcome = record {

@@ -4,7 +4,7 @@ ghost use Prim.Native.Nat.{_*_};
 ghost use lib.ListN.{length};
 ghost use Rattle.ids.specs.Index.{KnownTo};
 ghost use Rattle.algebra.specs.Conjunction.{and as conjunction, or as disjunction};
-ghost use Rattle.table.specs.Layout.{room};
+ghost use Rattle.table.specs.Layout.{room, store};
 ghost use Rattle.making.specs.Outcome.{Lent, tableOf};
 ghost use Rattle.walks.specs.Walking.{Worked};
 use super::pairs::conjoin;
@@ -26,8 +26,8 @@ pub fn and(
     x: NodeId,
     y: NodeId,
 ) -> Made
-    requires { ⌜ (Lent head (now nodes) (now children) (now cuts) (now index)) × (length (now memo) ≡ room (now nodes) * 3) × (KnownTo (head .used) (x .0)) × (KnownTo (head .used) (y .0)) ⌝ }
-    ensures { λ r. ⌜ Worked head (conjunction (tableOf head (now (nodes .entry)) (now (children .entry)) (now (cuts .entry))) (x .0) (y .0)) r (now (nodes .entry)) (now (children .entry)) (now (cuts .entry)) (now (index .entry)) (now (memo .entry)) (now (nodes .exit)) (now (children .exit)) (now (cuts .exit)) (now (index .exit)) (now (memo .exit)) ⌝ }
+    requires { ⌜ (Lent head (store (now nodes) (now children) (now cuts)) (now index)) × (length (now memo) ≡ room (now nodes) * 3) × (KnownTo (head .used) (x .0)) × (KnownTo (head .used) (y .0)) ⌝ }
+    ensures { λ r. ⌜ Worked head (conjunction (tableOf head (store (now (nodes .entry)) (now (children .entry)) (now (cuts .entry)))) (x .0) (y .0)) r (store (now (nodes .entry)) (now (children .entry)) (now (cuts .entry))) (now (index .entry)) (now (memo .entry)) (store (now (nodes .exit)) (now (children .exit)) (now (cuts .exit))) (now (index .exit)) (now (memo .exit)) ⌝ }
 {
     zero_words(memo);
     let m = conjoin(
@@ -55,8 +55,8 @@ pub fn or(
     x: NodeId,
     y: NodeId,
 ) -> Made
-    requires { ⌜ (Lent head (now nodes) (now children) (now cuts) (now index)) × (length (now memo) ≡ room (now nodes) * 3) × (KnownTo (head .used) (x .0)) × (KnownTo (head .used) (y .0)) ⌝ }
-    ensures { λ r. ⌜ Worked head (disjunction (tableOf head (now (nodes .entry)) (now (children .entry)) (now (cuts .entry))) (x .0) (y .0)) r (now (nodes .entry)) (now (children .entry)) (now (cuts .entry)) (now (index .entry)) (now (memo .entry)) (now (nodes .exit)) (now (children .exit)) (now (cuts .exit)) (now (index .exit)) (now (memo .exit)) ⌝ }
+    requires { ⌜ (Lent head (store (now nodes) (now children) (now cuts)) (now index)) × (length (now memo) ≡ room (now nodes) * 3) × (KnownTo (head .used) (x .0)) × (KnownTo (head .used) (y .0)) ⌝ }
+    ensures { λ r. ⌜ Worked head (disjunction (tableOf head (store (now (nodes .entry)) (now (children .entry)) (now (cuts .entry)))) (x .0) (y .0)) r (store (now (nodes .entry)) (now (children .entry)) (now (cuts .entry))) (now (index .entry)) (now (memo .entry)) (store (now (nodes .exit)) (now (children .exit)) (now (cuts .exit))) (now (index .exit)) (now (memo .exit)) ⌝ }
 {
     let m = and(nodes, children, cuts, index, memo, head, x.not(), y.not());
     let id = m.id;

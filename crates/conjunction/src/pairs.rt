@@ -9,6 +9,7 @@ ghost use Rattle.making.specs.Outcome.{tableOf};
 ghost use Rattle.views.specs.Seeing.{Asked, seen};
 ghost use Rattle.walks.specs.Walking.{Ready, Stepped, Sides, both};
 ghost use Rattle.conjunction.specs.Joining.{Entry, pairs};
+ghost use Rattle.table.specs.Layout.{store};
 use super::opening::opened;
 use ids::NodeId;
 use making::edges::Edge;
@@ -19,6 +20,7 @@ use making::nodes::Made;
 use making::nodes::create_node;
 use making::nodes::create_pair;
 use table::limits::FIRST_BOOLEAN;
+use table::limits::RECORD_WORDS;
 use views::View;
 use views::child;
 use views::cut;
@@ -42,15 +44,15 @@ pub fn conjoin(
     y: NodeId,
     ahead: usize,
 ) -> Made
-    requires { ⌜ (Ready Entry head (now nodes) (now children) (now cuts) (now index) (now memo)) × (Asked (tableOf head (now nodes) (now children) (now cuts)) (head .used) ahead (x .0)) × (Asked (tableOf head (now nodes) (now children) (now cuts)) (head .used) ahead (y .0)) ⌝ }
-    ensures { λ r. ⌜ Stepped Entry head (conj ahead (tableOf head (now (nodes .entry)) (now (children .entry)) (now (cuts .entry))) (x .0) (y .0)) r (now (nodes .entry)) (now (children .entry)) (now (cuts .entry)) (now (memo .entry)) (now (nodes .exit)) (now (children .exit)) (now (cuts .exit)) (now (index .exit)) (now (memo .exit)) ⌝ }
+    requires { ⌜ (Ready Entry head (store (now nodes) (now children) (now cuts)) (now index) (now memo)) × (Asked (tableOf head (store (now nodes) (now children) (now cuts))) (head .used) ahead (x .0)) × (Asked (tableOf head (store (now nodes) (now children) (now cuts))) (head .used) ahead (y .0)) ⌝ }
+    ensures { λ r. ⌜ Stepped Entry head (conj ahead (tableOf head (store (now (nodes .entry)) (now (children .entry)) (now (cuts .entry)))) (x .0) (y .0)) r (store (now (nodes .entry)) (now (children .entry)) (now (cuts .entry))) (now (memo .entry)) (store (now (nodes .exit)) (now (children .exit)) (now (cuts .exit))) (now (index .exit)) (now (memo .exit)) ⌝ }
 {
     let s = opened(x, y);
     if s.done {
         let id = s.id;
         return Made { ok: true, id, head };
     }
-    let rooms = nodes.len() / 4;
+    let rooms = nodes.len() / RECORD_WORDS;
     let s = recall(memo, rooms, x, y);
     if s.done {
         let id = s.id;
@@ -82,8 +84,8 @@ fn apply(
     v: usize,
     ahead: usize,
 ) -> Made
-    requires { ⌜ (Ready Entry head (now nodes) (now children) (now cuts) (now index) (now memo)) × (Sides (tableOf head (now nodes) (now children) (now cuts)) (head .edges) (now children) (now cuts) v ahead a b) ⌝ }
-    ensures { λ r. ⌜ Stepped Entry head (both (not (isRange v) && not (eqb (a .count) (b .count))) (pairs ahead) (tableOf head (now (nodes .entry)) (now (children .entry)) (now (cuts .entry))) v (seen (now (children .entry)) (now (cuts .entry)) v a 0) (seen (now (children .entry)) (now (cuts .entry)) v b 0)) r (now (nodes .entry)) (now (children .entry)) (now (cuts .entry)) (now (memo .entry)) (now (nodes .exit)) (now (children .exit)) (now (cuts .exit)) (now (index .exit)) (now (memo .exit)) ⌝ }
+    requires { ⌜ (Ready Entry head (store (now nodes) (now children) (now cuts)) (now index) (now memo)) × (Sides (tableOf head (store (now nodes) (now children) (now cuts))) (head .edges) (now children) (now cuts) v ahead a b) ⌝ }
+    ensures { λ r. ⌜ Stepped Entry head (both (not (isRange v) && not (eqb (a .count) (b .count))) (pairs ahead) (tableOf head (store (now (nodes .entry)) (now (children .entry)) (now (cuts .entry)))) v (seen (now (children .entry)) (now (cuts .entry)) v a 0) (seen (now (children .entry)) (now (cuts .entry)) v b 0)) r (store (now (nodes .entry)) (now (children .entry)) (now (cuts .entry))) (now (memo .entry)) (store (now (nodes .exit)) (now (children .exit)) (now (cuts .exit))) (now (index .exit)) (now (memo .exit)) ⌝ }
 {
     if v < FIRST_BOOLEAN {
         return apply_ranges(nodes, children, cuts, index, memo, head, a, b, v, ahead);
@@ -133,8 +135,8 @@ fn apply_ranges(
     v: usize,
     ahead: usize,
 ) -> Made
-    requires { ⌜ (Ready Entry head (now nodes) (now children) (now cuts) (now index) (now memo)) × (Sides (tableOf head (now nodes) (now children) (now cuts)) (head .edges) (now children) (now cuts) v ahead a b) × (v < firstBoolean) ⌝ }
-    ensures { λ r. ⌜ Stepped Entry head (both false (pairs ahead) (tableOf head (now (nodes .entry)) (now (children .entry)) (now (cuts .entry))) v (seen (now (children .entry)) (now (cuts .entry)) v a 0) (seen (now (children .entry)) (now (cuts .entry)) v b 0)) r (now (nodes .entry)) (now (children .entry)) (now (cuts .entry)) (now (memo .entry)) (now (nodes .exit)) (now (children .exit)) (now (cuts .exit)) (now (index .exit)) (now (memo .exit)) ⌝ }
+    requires { ⌜ (Ready Entry head (store (now nodes) (now children) (now cuts)) (now index) (now memo)) × (Sides (tableOf head (store (now nodes) (now children) (now cuts))) (head .edges) (now children) (now cuts) v ahead a b) × (v < firstBoolean) ⌝ }
+    ensures { λ r. ⌜ Stepped Entry head (both false (pairs ahead) (tableOf head (store (now (nodes .entry)) (now (children .entry)) (now (cuts .entry)))) v (seen (now (children .entry)) (now (cuts .entry)) v a 0) (seen (now (children .entry)) (now (cuts .entry)) v b 0)) r (store (now (nodes .entry)) (now (children .entry)) (now (cuts .entry))) (now (memo .entry)) (store (now (nodes .exit)) (now (children .exit)) (now (cuts .exit))) (now (index .exit)) (now (memo .exit)) ⌝ }
 {
     let mut out = Edges::new();
     let mut now = head;

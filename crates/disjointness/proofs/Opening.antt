@@ -20,6 +20,7 @@ use Rattle.views.specs.Seeing.{Asked, Readable, seen, Views}
 use Rattle.views.specs.declared.View.{View}
 use Rattle.views.proofs.Sights.{seen-range, seen-bool, views-rising, views-kids, views-inside, count-bool, known-held, known-used}
 use Rattle.disjointness.specs.Asking.{apart, Sides}
+use Rattle.table.specs.Layout.{Store}
 
 -- what they ask
 abbrev pub Opposed : ℕ → ℕ → Bool
@@ -57,13 +58,13 @@ no-terminal-right x y o g =
     let j = neither-true (eqb y 0) (eqb x y) (neither-true (eqb x 0) (eqb y 0 || eqb x y) g .1) in
     omega (arith, eqb-false y 1 (i .0), eqb-false y 0 (j .0))
 
-module _ {nodes children : List ℕ} {cuts : List ℤ} {u n x y : ℕ} (r : Readable nodes children cuts u) (ax : Asked (held nodes children cuts u) u n x) (ay : Asked (held nodes children cuts u) u n y) where
+module _ {st : Store} {u n x y : ℕ} (r : Readable st u) (ax : Asked (held st u) u n x) (ay : Asked (held st u) u n y) where
   abbrev t : Table
-  t = held nodes children cuts u
+  t = held st u
 
   -- no variable is later than a terminal's, so that a call is left
   pub call-left : 1 ≤ n
-  call-left = omega (arith, var-most t (r .sound) (ref x) (known-held nodes children cuts u x (ax .known)), ax .ahead)
+  call-left = omega (arith, var-most t (r .sound) (ref x) (known-held st u x (ax .known)), ax .ahead)
 
   pub opening-yes : {q : Bool} → q ≡ Opposed x y → q ≡ true → true ≡ disjoint n t x y
   opening-yes e h = disjoint-yes t x y n call-left (sym e ∙ h)
@@ -78,29 +79,29 @@ module _ {nodes children : List ℕ} {cuts : List ℤ} {u n x y : ℕ} (r : Read
     pub right-node : 2 ≤ y
     right-node = no-terminal-right x y (sym d ∙ o) (sym e ∙ g)
 
-    module _ {v : ℕ} {a b : View} (ev : v ≡ min ((at t (ref x)) .var) ((at t (ref y)) .var)) (hv : v < variables) (va : Views nodes children cuts u v x a) (vb : Views nodes children cuts u v y b) where
+    module _ {v : ℕ} {a b : View} (ev : v ≡ min ((at t (ref x)) .var) ((at t (ref y)) .var)) (hv : v < variables) (va : Views st u v x a) (vb : Views st u v y b) where
       left-child : Child t v x
-      left-child = (known-held nodes children cuts u x (ax .known), omega (arith, ev))
+      left-child = (known-held st u x (ax .known), omega (arith, ev))
 
       right-child : Child t v y
-      right-child = (known-held nodes children cuts u y (ay .known), omega (arith, ev))
+      right-child = (known-held st u y (ay .known), omega (arith, ev))
 
       below : (c : ℕ) → Child t (suc v) c → Asked t u (n - 1) c
-      below c k = record { known = known-used nodes children cuts u c (k .0); ahead = omega (arith, k .1, ev, ax .ahead, ay .ahead, call-left) }
+      below c k = record { known = known-used st u c (k .0); ahead = omega (arith, k .1, ev, ax .ahead, ay .ahead, call-left) }
 
       -- the two views, at the variable
-      sides : Sides nodes children cuts u v (n - 1) a b
+      sides : Sides st u v (n - 1) a b
       sides = record {
-        left = views-inside nodes children cuts u v x a r va;
-        right = views-inside nodes children cuts u v y b r vb;
-        left-rises = views-rising nodes children cuts u v x a r hv left-child va;
-        right-rises = views-rising nodes children cuts u v y b r hv right-child vb;
-        left-asked = each-imp (Child t (suc v)) (Asked t u (n - 1)) below (seen children cuts v a 0) (views-kids nodes children cuts u v x a r hv left-child va);
-        right-asked = each-imp (Child t (suc v)) (Asked t u (n - 1)) below (seen children cuts v b 0) (views-kids nodes children cuts u v y b r hv right-child vb);
+        left = views-inside st u v x a r va;
+        right = views-inside st u v y b r vb;
+        left-rises = views-rising st u v x a r hv left-child va;
+        right-rises = views-rising st u v y b r hv right-child vb;
+        left-asked = each-imp (Child t (suc v)) (Asked t u (n - 1)) below (seen (st .children) (st .cuts) v a 0) (views-kids st u v x a r hv left-child va);
+        right-asked = each-imp (Child t (suc v)) (Asked t u (n - 1)) below (seen (st .children) (st .cuts) v b 0) (views-kids st u v y b r hv right-child vb);
       }
 
       -- and at one that stands for its kind
-      at-kind : (k : ℕ) → topOf v ≡ topOf k → ((w : View) → seen children cuts v w 0 ≡ seen children cuts k w 0) → Sides nodes children cuts u k (n - 1) a b
+      at-kind : (k : ℕ) → topOf v ≡ topOf k → ((w : View) → seen (st .children) (st .cuts) v w 0 ≡ seen (st .children) (st .cuts) k w 0) → Sides st u k (n - 1) a b
       at-kind k e same = record {
         left = sides .left;
         right = sides .right;
@@ -110,17 +111,17 @@ module _ {nodes children : List ℕ} {cuts : List ℤ} {u n x y : ℕ} (r : Read
         right-asked = rw (same b) at (sides .right-asked);
       }
 
-      whole : disjoint n t x y ≡ apart (n - 1) t (seen children cuts v a 0) (seen children cuts v b 0)
+      whole : disjoint n t x y ≡ apart (n - 1) t (seen (st .children) (st .cuts) v a 0) (seen (st .children) (st .cuts) v b 0)
       whole = disjoint-apart t x y n call-left (sym d ∙ o) (sym e ∙ g) v ev ∙ ap₂ (apart (n - 1) t) (sym (va .edges)) (sym (vb .edges))
 
-      pub range-sides : v < firstBoolean → Sides nodes children cuts u 0 (n - 1) a b
-      range-sides h = at-kind 0 (rw (lt-ltb v 32 h)) (λ w. seen-range children cuts v w 0 h)
+      pub range-sides : v < firstBoolean → Sides st u 0 (n - 1) a b
+      range-sides h = at-kind 0 (rw (lt-ltb v 32 h)) (λ w. seen-range (st .children) (st .cuts) v w 0 h)
 
-      pub range-answer : v < firstBoolean → {z : Bool} → z ≡ apart (n - 1) t (seen children cuts 0 a 0) (seen children cuts 0 b 0) → z ≡ disjoint n t x y
-      range-answer h f = f ∙ sym (whole ∙ ap₂ (apart (n - 1) t) (seen-range children cuts v a 0 h) (seen-range children cuts v b 0 h))
+      pub range-answer : v < firstBoolean → {z : Bool} → z ≡ apart (n - 1) t (seen (st .children) (st .cuts) 0 a 0) (seen (st .children) (st .cuts) 0 b 0) → z ≡ disjoint n t x y
+      range-answer h f = f ∙ sym (whole ∙ ap₂ (apart (n - 1) t) (seen-range (st .children) (st .cuts) v a 0 h) (seen-range (st .children) (st .cuts) v b 0 h))
 
-      pub bool-sides : firstBoolean ≤ v → Sides nodes children cuts u firstBoolean (n - 1) a b × (a .count ≤ 2) × (b .count ≤ 2)
-      bool-sides h = (at-kind firstBoolean (rw (le-ltb v 32 h)) (λ w. seen-bool children cuts v w 0 h), count-bool nodes children cuts u v x a r hv left-child va h, count-bool nodes children cuts u v y b r hv right-child vb h)
+      pub bool-sides : firstBoolean ≤ v → Sides st u firstBoolean (n - 1) a b × (a .count ≤ 2) × (b .count ≤ 2)
+      bool-sides h = (at-kind firstBoolean (rw (le-ltb v 32 h)) (λ w. seen-bool (st .children) (st .cuts) v w 0 h), count-bool st u v x a r hv left-child va h, count-bool st u v y b r hv right-child vb h)
 
-      pub bool-answer : firstBoolean ≤ v → {z : Bool} → z ≡ apart (n - 1) t (seen children cuts firstBoolean a 0) (seen children cuts firstBoolean b 0) → z ≡ disjoint n t x y
-      bool-answer h f = f ∙ sym (whole ∙ ap₂ (apart (n - 1) t) (seen-bool children cuts v a 0 h) (seen-bool children cuts v b 0 h))
+      pub bool-answer : firstBoolean ≤ v → {z : Bool} → z ≡ apart (n - 1) t (seen (st .children) (st .cuts) firstBoolean a 0) (seen (st .children) (st .cuts) firstBoolean b 0) → z ≡ disjoint n t x y
+      bool-answer h f = f ∙ sym (whole ∙ ap₂ (apart (n - 1) t) (seen-bool (st .children) (st .cuts) v a 0 h) (seen-bool (st .children) (st .cuts) v b 0 h))

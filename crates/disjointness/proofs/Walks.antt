@@ -17,6 +17,7 @@ use Rattle.views.specs.declared.View.{View}
 use Rattle.views.proofs.Sights.{seen-last, seen-cut, seen-each, rising-cut, inside-wider}
 use Rattle.disjointness.specs.Asking.{apart, Sides}
 use Rattle.disjointness.proofs.Overlaps.{apart-not, apart-left, apart-left-last, apart-right, apart-right-last, apart-both, apart-one}
+use Rattle.table.specs.Layout.{Store}
 
 -- the cut of edge j of a view as `cut` gives it
 abbrev pub Ends : List ℤ → View → ℕ → ℕ → Type 0
@@ -35,8 +36,8 @@ pub asked-child : (children : List ℕ) (cuts : List ℤ) (t : Table) (u v n j x
 asked-child children cuts t u v n j x w e h q = subst (Asked t u n) (sym q) (seen-each children cuts v w (Asked t u n) e j h)
 
 -- a view lies within the cuts as it lies within the children
-pub cuts-inside : {nodes children : List ℕ} {cuts : List ℤ} {u : ℕ} {w : View} → Readable nodes children cuts u → Inside (length children) w → Inside (length cuts) w
-cuts-inside {nodes} {children} {cuts} {u} {w} r i = inside-wider (length children) (length cuts) w (omega (arith, r .cut-each)) i
+pub cuts-inside : {st : Store} {u : ℕ} {w : View} → Readable st u → Inside (length (st .children)) w → Inside (length (st .cuts)) w
+cuts-inside {st} {u} {w} r i = inside-wider (length (st .children)) (length (st .cuts)) w (omega (arith, r .cut-each)) i
 
 -- left edge i and right edge j are the next overlap: what is left to ask has the answer of the whole
 pub record Walked (n : ℕ) (t : Table) (children : List ℕ) (cuts : List ℤ) (a b : View) (i j : ℕ) : Type 0 where
@@ -52,94 +53,94 @@ pub record Turned (n : ℕ) (t : Table) (children : List ℕ) (cuts : List ℤ) 
 pub turned-at : {n : ℕ} {t : Table} {children : List ℕ} {cuts : List ℤ} {a b : View} {i j z : ℕ} → z ≡ j → Turned n t children cuts a b i j → Turned n t children cuts a b i z
 turned-at {n} {t} {children} {cuts} {a} {b} {i} e h = subst (λ (k : ℕ). Turned n t children cuts a b i k) (sym e) h
 
-module _ {nodes children : List ℕ} {cuts : List ℤ} {u n : ℕ} {a b : View} (s : Sides nodes children cuts u 0 n a b) where
+module _ {st : Store} {u n : ℕ} {a b : View} (s : Sides st u 0 n a b) where
   abbrev t : Table
-  t = held nodes children cuts u
+  t = held st u
 
-  pub walk-starts : Turned n t children cuts a b 0 0
+  pub walk-starts : Turned n t (st .children) (st .cuts) a b 0 0
   walk-starts = record { going = λ h. record { inside = omega (arith, s .right .some); same = refl }; over = λ h. absurd (omega (arith, s .left .some)) }
 
-  module _ {i j x y : ℕ} {q : Bool} (hi : i < a .count) (w : Walked n t children cuts a b i j) (ex : x ≡ childSeen children a i) (ey : y ≡ childSeen children b j) (eq : q ≡ disjoint n t x y) where
-    answered : q ≡ disjoint n t (childSeen children a i) (childSeen children b j)
+  module _ {i j x y : ℕ} {q : Bool} (hi : i < a .count) (w : Walked n t (st .children) (st .cuts) a b i j) (ex : x ≡ childSeen (st .children) a i) (ey : y ≡ childSeen (st .children) b j) (eq : q ≡ disjoint n t x y) where
+    answered : q ≡ disjoint n t (childSeen (st .children) a i) (childSeen (st .children) b j)
     answered = eq ∙ ap₂ (λ (c d : ℕ). disjoint n t c d) ex ey
 
     -- no at this overlap is the answer
-    pub walk-no : q ≡ false → false ≡ apart n t (seen children cuts 0 a 0) (seen children cuts 0 b 0)
+    pub walk-no : q ≡ false → false ≡ apart n t (seen (st .children) (st .cuts) 0 a 0) (seen (st .children) (st .cuts) 0 b 0)
     walk-no h =
-        let p = first-seen children cuts 0 a i hi in
-        let r = first-seen children cuts 0 b j (w .inside) in
-        sym (apart-not n t (seen children cuts 0 a i) (seen children cuts 0 b j) (ap₂ (λ (c d : ℕ). disjoint n t c d) p r ∙ (sym answered ∙ h))) ∙ w .same
+        let p = first-seen (st .children) (st .cuts) 0 a i hi in
+        let r = first-seen (st .children) (st .cuts) 0 b j (w .inside) in
+        sym (apart-not n t (seen (st .children) (st .cuts) 0 a i) (seen (st .children) (st .cuts) 0 b j) (ap₂ (λ (c d : ℕ). disjoint n t c d) p r ∙ (sym answered ∙ h))) ∙ w .same
 
-    module _ {k l : ℕ} (h : q ≡ true) (ek : Ends cuts a i k) (el : Ends cuts b j l) where
-      yes : disjoint n t (childSeen children a i) (childSeen children b j) ≡ true
+    module _ {k l : ℕ} (h : q ≡ true) (ek : Ends (st .cuts) a i k) (el : Ends (st .cuts) b j l) where
+      yes : disjoint n t (childSeen (st .children) a i) (childSeen (st .children) b j) ≡ true
       yes = sym answered ∙ h
 
       -- the left edge ends first
-      pub walk-left : k < l → Turned n t children cuts a b (i + 1) j
+      pub walk-left : k < l → Turned n t (st .children) (st .cuts) a b (i + 1) j
       walk-left g = record { going = λ o. record { inside = w .inside; same = sym (⊎-elim cuts-both last-right (split (j + 1) (b .count))) ∙ w .same }; over = λ o. absurd (omega (arith, m)) }
         where
           m : i + 1 < a .count
-          m = more-edges cuts a i k l ek (el .2) g
+          m = more-edges (st .cuts) a i k l ek (el .2) g
 
-          cuts-both : j + 1 < b .count → apart n t (seen children cuts 0 a i) (seen children cuts 0 b j) ≡ apart n t (seen children cuts 0 a (i + 1)) (seen children cuts 0 b j)
+          cuts-both : j + 1 < b .count → apart n t (seen (st .children) (st .cuts) 0 a i) (seen (st .children) (st .cuts) 0 b j) ≡ apart n t (seen (st .children) (st .cuts) 0 a (i + 1)) (seen (st .children) (st .cuts) 0 b j)
           cuts-both o =
-              let e = seen-cut children cuts 0 a i m in
-              let f = seen-cut children cuts 0 b j o in
-              ap₂ (apart n t) e f ∙ (apart-left n t (childSeen children a i) (childSeen children b j) yes (cutSeen cuts 0 a i) (cutSeen cuts 0 b j) (seen children cuts 0 a (i + 1)) (seen children cuts 0 b (j + 1)) (omega (arith, ek .0 m, el .0 o))
-              ∙ ap (apart n t (seen children cuts 0 a (i + 1))) (sym f))
+              let e = seen-cut (st .children) (st .cuts) 0 a i m in
+              let f = seen-cut (st .children) (st .cuts) 0 b j o in
+              ap₂ (apart n t) e f ∙ (apart-left n t (childSeen (st .children) a i) (childSeen (st .children) b j) yes (cutSeen (st .cuts) 0 a i) (cutSeen (st .cuts) 0 b j) (seen (st .children) (st .cuts) 0 a (i + 1)) (seen (st .children) (st .cuts) 0 b (j + 1)) (omega (arith, ek .0 m, el .0 o))
+              ∙ ap (apart n t (seen (st .children) (st .cuts) 0 a (i + 1))) (sym f))
 
-          last-right : b .count ≤ j + 1 → apart n t (seen children cuts 0 a i) (seen children cuts 0 b j) ≡ apart n t (seen children cuts 0 a (i + 1)) (seen children cuts 0 b j)
+          last-right : b .count ≤ j + 1 → apart n t (seen (st .children) (st .cuts) 0 a i) (seen (st .children) (st .cuts) 0 b j) ≡ apart n t (seen (st .children) (st .cuts) 0 a (i + 1)) (seen (st .children) (st .cuts) 0 b j)
           last-right o =
-              let e = seen-cut children cuts 0 a i m in
-              let f = seen-last children cuts 0 b j (omega (arith, w .inside)) in
-              ap₂ (apart n t) e f ∙ (apart-left-last n t (childSeen children a i) (childSeen children b j) yes (cutSeen cuts 0 a i) (seen children cuts 0 a (i + 1))
-              ∙ ap (apart n t (seen children cuts 0 a (i + 1))) (sym f))
+              let e = seen-cut (st .children) (st .cuts) 0 a i m in
+              let f = seen-last (st .children) (st .cuts) 0 b j (omega (arith, w .inside)) in
+              ap₂ (apart n t) e f ∙ (apart-left-last n t (childSeen (st .children) a i) (childSeen (st .children) b j) yes (cutSeen (st .cuts) 0 a i) (seen (st .children) (st .cuts) 0 a (i + 1))
+              ∙ ap (apart n t (seen (st .children) (st .cuts) 0 a (i + 1))) (sym f))
 
       -- the right edge ends first
-      pub walk-right : l < k → Walked n t children cuts a b i (j + 1)
+      pub walk-right : l < k → Walked n t (st .children) (st .cuts) a b i (j + 1)
       walk-right g = record { inside = m; same = sym (⊎-elim cuts-both last-left (split (i + 1) (a .count))) ∙ w .same }
         where
           m : j + 1 < b .count
-          m = more-edges cuts b j l k el (ek .2) g
+          m = more-edges (st .cuts) b j l k el (ek .2) g
 
-          cuts-both : i + 1 < a .count → apart n t (seen children cuts 0 a i) (seen children cuts 0 b j) ≡ apart n t (seen children cuts 0 a i) (seen children cuts 0 b (j + 1))
+          cuts-both : i + 1 < a .count → apart n t (seen (st .children) (st .cuts) 0 a i) (seen (st .children) (st .cuts) 0 b j) ≡ apart n t (seen (st .children) (st .cuts) 0 a i) (seen (st .children) (st .cuts) 0 b (j + 1))
           cuts-both o =
-              let e = seen-cut children cuts 0 a i o in
-              let f = seen-cut children cuts 0 b j m in
-              ap₂ (apart n t) e f ∙ (apart-right n t (childSeen children a i) (childSeen children b j) yes (cutSeen cuts 0 a i) (cutSeen cuts 0 b j) (seen children cuts 0 a (i + 1)) (seen children cuts 0 b (j + 1)) (omega (arith, ek .0 o, el .0 m))
-              ∙ ap (λ (z : Pieces ℕ). apart n t z (seen children cuts 0 b (j + 1))) (sym e))
+              let e = seen-cut (st .children) (st .cuts) 0 a i o in
+              let f = seen-cut (st .children) (st .cuts) 0 b j m in
+              ap₂ (apart n t) e f ∙ (apart-right n t (childSeen (st .children) a i) (childSeen (st .children) b j) yes (cutSeen (st .cuts) 0 a i) (cutSeen (st .cuts) 0 b j) (seen (st .children) (st .cuts) 0 a (i + 1)) (seen (st .children) (st .cuts) 0 b (j + 1)) (omega (arith, ek .0 o, el .0 m))
+              ∙ ap (λ (z : Pieces ℕ). apart n t z (seen (st .children) (st .cuts) 0 b (j + 1))) (sym e))
 
-          last-left : a .count ≤ i + 1 → apart n t (seen children cuts 0 a i) (seen children cuts 0 b j) ≡ apart n t (seen children cuts 0 a i) (seen children cuts 0 b (j + 1))
+          last-left : a .count ≤ i + 1 → apart n t (seen (st .children) (st .cuts) 0 a i) (seen (st .children) (st .cuts) 0 b j) ≡ apart n t (seen (st .children) (st .cuts) 0 a i) (seen (st .children) (st .cuts) 0 b (j + 1))
           last-left o =
-              let e = seen-last children cuts 0 a i (omega (arith, hi)) in
-              let f = seen-cut children cuts 0 b j m in
-              ap₂ (apart n t) e f ∙ (apart-right-last n t (childSeen children a i) (childSeen children b j) yes (cutSeen cuts 0 b j) (seen children cuts 0 b (j + 1))
-              ∙ ap (λ (z : Pieces ℕ). apart n t z (seen children cuts 0 b (j + 1))) (sym e))
+              let e = seen-last (st .children) (st .cuts) 0 a i (omega (arith, hi)) in
+              let f = seen-cut (st .children) (st .cuts) 0 b j m in
+              ap₂ (apart n t) e f ∙ (apart-right-last n t (childSeen (st .children) a i) (childSeen (st .children) b j) yes (cutSeen (st .cuts) 0 b j) (seen (st .children) (st .cuts) 0 b (j + 1))
+              ∙ ap (λ (z : Pieces ℕ). apart n t z (seen (st .children) (st .cuts) 0 b (j + 1))) (sym e))
 
       -- both end together, at a cut or as the last ones
-      pub walk-both : k ≡ l → Turned n t children cuts a b (i + 1) (j + 1)
-      walk-both g = ⊎-elim (λ m. ⊎-elim (λ o. cuts-both m o) (λ o. absurd (omega (arith, ek .0 m, el .1 o, rising-cut children cuts 0 a (topOf 0) (s .left-rises) i m .1))) (split (j + 1) (b .count)))
-          (λ m. ⊎-elim (λ o. absurd (omega (arith, ek .1 m, el .0 o, rising-cut children cuts 0 b (topOf 0) (s .right-rises) j o .1))) (λ o. last-both m o) (split (j + 1) (b .count))) (split (i + 1) (a .count))
+      pub walk-both : k ≡ l → Turned n t (st .children) (st .cuts) a b (i + 1) (j + 1)
+      walk-both g = ⊎-elim (λ m. ⊎-elim (λ o. cuts-both m o) (λ o. absurd (omega (arith, ek .0 m, el .1 o, rising-cut (st .children) (st .cuts) 0 a (topOf 0) (s .left-rises) i m .1))) (split (j + 1) (b .count)))
+          (λ m. ⊎-elim (λ o. absurd (omega (arith, ek .1 m, el .0 o, rising-cut (st .children) (st .cuts) 0 b (topOf 0) (s .right-rises) j o .1))) (λ o. last-both m o) (split (j + 1) (b .count))) (split (i + 1) (a .count))
         where
-          cuts-both : i + 1 < a .count → j + 1 < b .count → Turned n t children cuts a b (i + 1) (j + 1)
+          cuts-both : i + 1 < a .count → j + 1 < b .count → Turned n t (st .children) (st .cuts) a b (i + 1) (j + 1)
           cuts-both m o =
-              let e = seen-cut children cuts 0 a i m in
-              let f = seen-cut children cuts 0 b j o in
-              let c : cutSeen cuts 0 a i ≡ cutSeen cuts 0 b j = sym (ek .0 m) ∙ (g ∙ el .0 o) in
+              let e = seen-cut (st .children) (st .cuts) 0 a i m in
+              let f = seen-cut (st .children) (st .cuts) 0 b j o in
+              let c : cutSeen (st .cuts) 0 a i ≡ cutSeen (st .cuts) 0 b j = sym (ek .0 m) ∙ (g ∙ el .0 o) in
               record {
                 going = λ z. record {
                   inside = o;
                   same = sym (ap₂ (apart n t) e f
-                      ∙ apart-both n t (childSeen children a i) (childSeen children b j) yes (cutSeen cuts 0 a i) (cutSeen cuts 0 b j) (topOf 0) (seen children cuts 0 a (i + 1)) (seen children cuts 0 b (j + 1)) c (rising-cut children cuts 0 b (topOf 0) (s .right-rises) j o .2))
+                      ∙ apart-both n t (childSeen (st .children) a i) (childSeen (st .children) b j) yes (cutSeen (st .cuts) 0 a i) (cutSeen (st .cuts) 0 b j) (topOf 0) (seen (st .children) (st .cuts) 0 a (i + 1)) (seen (st .children) (st .cuts) 0 b (j + 1)) c (rising-cut (st .children) (st .cuts) 0 b (topOf 0) (s .right-rises) j o .2))
                       ∙ w .same;
                 };
                 over = λ z. absurd (omega arith);
               }
 
-          last-both : a .count ≤ i + 1 → b .count ≤ j + 1 → Turned n t children cuts a b (i + 1) (j + 1)
+          last-both : a .count ≤ i + 1 → b .count ≤ j + 1 → Turned n t (st .children) (st .cuts) a b (i + 1) (j + 1)
           last-both m o = record {
             going = λ z. absurd (omega arith);
-            over = λ z. sym (ap₂ (apart n t) (seen-last children cuts 0 a i (omega (arith, hi))) (seen-last children cuts 0 b j (omega (arith, w .inside)))
-                ∙ (apart-one n t (childSeen children a i) (childSeen children b j) ∙ yes))
+            over = λ z. sym (ap₂ (apart n t) (seen-last (st .children) (st .cuts) 0 a i (omega (arith, hi))) (seen-last (st .children) (st .cuts) 0 b j (omega (arith, w .inside)))
+                ∙ (apart-one n t (childSeen (st .children) a i) (childSeen (st .children) b j) ∙ yes))
                 ∙ w .same;
           }

@@ -11,16 +11,17 @@ use Rattle.algebra.specs.Disjointness.{every, disjoint}
 use Rattle.table.specs.Held.{held}
 use Rattle.views.specs.Seeing.{Asked, seen, Inside}
 use Rattle.views.specs.declared.View.{View}
+use Rattle.table.specs.Layout.{Store}
 
 -- "The answer is no at the first overlapping pair of edges whose children aren't disjoint."
 unfoldable pub apart : ℕ → Table → Pieces ℕ → Pieces ℕ → Bool
 apart n t e f = every (λ p. disjoint n t (p .0) (p .1)) (overlay e f)
 
 -- Two views at one variable: their cuts rise, and each child may be asked about. v is that variable, or another of its kind.
-pub record Sides (nodes children : List ℕ) (cuts : List ℤ) (u v n : ℕ) (a b : View) : Type 0 where
-  pub left : Inside (length children) a
-  pub right : Inside (length children) b
-  pub left-rises : Rising 0 (topOf v) (seen children cuts v a 0)
-  pub right-rises : Rising 0 (topOf v) (seen children cuts v b 0)
-  pub left-asked : Each (Asked (held nodes children cuts u) u n) (seen children cuts v a 0)
-  pub right-asked : Each (Asked (held nodes children cuts u) u n) (seen children cuts v b 0)
+pub record Sides (st : Store) (u v n : ℕ) (a b : View) : Type 0 where
+  pub left : Inside (length (st .children)) a
+  pub right : Inside (length (st .children)) b
+  pub left-rises : Rising 0 (topOf v) (seen (st .children) (st .cuts) v a 0)
+  pub right-rises : Rising 0 (topOf v) (seen (st .children) (st .cuts) v b 0)
+  pub left-asked : Each (Asked (held st u) u n) (seen (st .children) (st .cuts) v a 0)
+  pub right-asked : Each (Asked (held st u) u n) (seen (st .children) (st .cuts) v b 0)

@@ -10,6 +10,7 @@ ghost use Rattle.algebra.specs.Disjointness.{disjoint};
 ghost use Rattle.table.specs.Held.{held};
 ghost use Rattle.views.specs.Seeing.{Asked, Readable, seen};
 ghost use Rattle.disjointness.specs.Asking.{apart, Sides};
+ghost use Rattle.table.specs.Layout.{store};
 use ids::NodeId;
 use table::limits::FIRST_BOOLEAN;
 use views::View;
@@ -43,8 +44,8 @@ pub fn is_disjoint(
     y: NodeId,
     ahead: usize,
 ) -> bool
-    requires { ⌜ (Readable (now nodes) (now children) (now cuts) used) × (Asked (held (now nodes) (now children) (now cuts) used) used ahead (x .0)) × (Asked (held (now nodes) (now children) (now cuts) used) used ahead (y .0)) ⌝ }
-    ensures { λ r. ⌜ r ≡ disjoint ahead (held (now (nodes .entry)) (now (children .entry)) (now (cuts .entry)) used) (x .0) (y .0) ⌝ }
+    requires { ⌜ (Readable (store (now nodes) (now children) (now cuts)) used) × (Asked (held (store (now nodes) (now children) (now cuts)) used) used ahead (x .0)) × (Asked (held (store (now nodes) (now children) (now cuts)) used) used ahead (y .0)) ⌝ }
+    ensures { λ r. ⌜ r ≡ disjoint ahead (held (store (now (nodes .entry)) (now (children .entry)) (now (cuts .entry))) used) (x .0) (y .0) ⌝ }
 {
     if opposed(x, y) {
         return true;
@@ -72,8 +73,8 @@ fn ranges_disjoint(
     b: View,
     ahead: usize,
 ) -> bool
-    requires { ⌜ (Readable (now nodes) (now children) (now cuts) used) × (Sides (now nodes) (now children) (now cuts) used 0 ahead a b) ⌝ }
-    ensures { λ r. ⌜ r ≡ apart ahead (held (now (nodes .entry)) (now (children .entry)) (now (cuts .entry)) used) (seen (now (children .entry)) (now (cuts .entry)) 0 a 0) (seen (now (children .entry)) (now (cuts .entry)) 0 b 0) ⌝ }
+    requires { ⌜ (Readable (store (now nodes) (now children) (now cuts)) used) × (Sides (store (now nodes) (now children) (now cuts)) used 0 ahead a b) ⌝ }
+    ensures { λ r. ⌜ r ≡ apart ahead (held (store (now (nodes .entry)) (now (children .entry)) (now (cuts .entry))) used) (seen (now (children .entry)) (now (cuts .entry)) 0 a 0) (seen (now (children .entry)) (now (cuts .entry)) 0 b 0) ⌝ }
 {
     let mut answer = true;
     let mut i = 0;
@@ -111,8 +112,8 @@ fn booleans_disjoint(
     b: View,
     ahead: usize,
 ) -> bool
-    requires { ⌜ (Readable (now nodes) (now children) (now cuts) used) × (Sides (now nodes) (now children) (now cuts) used firstBoolean ahead a b) × (a .count ≤ 2) × (b .count ≤ 2) ⌝ }
-    ensures { λ r. ⌜ r ≡ apart ahead (held (now (nodes .entry)) (now (children .entry)) (now (cuts .entry)) used) (seen (now (children .entry)) (now (cuts .entry)) firstBoolean a 0) (seen (now (children .entry)) (now (cuts .entry)) firstBoolean b 0) ⌝ }
+    requires { ⌜ (Readable (store (now nodes) (now children) (now cuts)) used) × (Sides (store (now nodes) (now children) (now cuts)) used firstBoolean ahead a b) × (a .count ≤ 2) × (b .count ≤ 2) ⌝ }
+    ensures { λ r. ⌜ r ≡ apart ahead (held (store (now (nodes .entry)) (now (children .entry)) (now (cuts .entry))) used) (seen (now (children .entry)) (now (cuts .entry)) firstBoolean a 0) (seen (now (children .entry)) (now (cuts .entry)) firstBoolean b 0) ⌝ }
 {
     let x = child(children, a, 0);
     let y = child(children, b, 0);

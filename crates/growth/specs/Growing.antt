@@ -5,20 +5,20 @@ use mathlib.Core.Logic.{_⊎_}
 use Prim.Native.Nat.{ℕ, suc, _+_, _*_, _≤_, _<_}
 use lib.ListN.{length, getD}
 use lib.IntN.{ℤ, pos}
-use Rattle.table.specs.Layout.{countAt, kidAt, cutAt, room}
+use Rattle.table.specs.Layout.{countAt, kidAt, cutAt, room, Store}
 use Rattle.table.specs.Indexed.{bucketAt}
 
 -- Words of the second table, beside record n of it and the c edges from e on, are those of the first, which has zeros there.
-pub record MoreWords (n e c : ℕ) (nodes children : List ℕ) (cuts : List ℤ) (nodes′ children′ : List ℕ) (cuts′ : List ℤ) : Type 0 where
-  pub long : length nodes′ ≡ length nodes
-  pub wide : length children′ ≡ length children
-  pub deep : length cuts′ ≡ length cuts
-  pub word : (i : ℕ) → (i < n * 4) ⊎ (n * 4 + 4 ≤ i) → getD nodes′ i 0 ≡ getD nodes i 0
-  pub no-word : (i : ℕ) → n * 4 ≤ i → i < n * 4 + 4 → getD nodes i 0 ≡ 0
-  pub child : (i : ℕ) → (i < e) ⊎ (e + c ≤ i) → kidAt children′ i ≡ kidAt children i
-  pub no-child : (i : ℕ) → e ≤ i → i < e + c → kidAt children i ≡ 0
-  pub cut : (i : ℕ) → (i < e) ⊎ (e + c ≤ i) → cutAt cuts′ i ≡ cutAt cuts i
-  pub no-cut : (i : ℕ) → e ≤ i → i < e + c → cutAt cuts i ≡ pos 0
+pub record MoreWords (n e c : ℕ) (st : Store) (st′ : Store) : Type 0 where
+  pub long : length (st′ .nodes) ≡ length (st .nodes)
+  pub wide : length (st′ .children) ≡ length (st .children)
+  pub deep : length (st′ .cuts) ≡ length (st .cuts)
+  pub word : (i : ℕ) → (i < n * 4) ⊎ (n * 4 + 4 ≤ i) → getD (st′ .nodes) i 0 ≡ getD (st .nodes) i 0
+  pub no-word : (i : ℕ) → n * 4 ≤ i → i < n * 4 + 4 → getD (st .nodes) i 0 ≡ 0
+  pub child : (i : ℕ) → (i < e) ⊎ (e + c ≤ i) → kidAt (st′ .children) i ≡ kidAt (st .children) i
+  pub no-child : (i : ℕ) → e ≤ i → i < e + c → kidAt (st .children) i ≡ 0
+  pub cut : (i : ℕ) → (i < e) ⊎ (e + c ≤ i) → cutAt (st′ .cuts) i ≡ cutAt (st .cuts) i
+  pub no-cut : (i : ℕ) → e ≤ i → i < e + c → cutAt (st .cuts) i ≡ pos 0
 
 -- The second index has node n in front of bucket b; the first does not have it.
 pub record MoreIndex (r n b : ℕ) (index index′ : List ℕ) : Type 0 where
@@ -29,6 +29,6 @@ pub record MoreIndex (r n b : ℕ) (index index′ : List ℕ) : Type 0 where
   pub other : (i : ℕ) → (i ≡ b → ⊥) → (i ≡ r + n → ⊥) → getD index′ i 0 ≡ getD index i 0
 
 -- The second table has one node more than the first: record n, whose edges stand from e on.
-pub record OneMore (n e : ℕ) (nodes children : List ℕ) (cuts : List ℤ) (index nodes′ children′ : List ℕ) (cuts′ : List ℤ) (index′ : List ℕ) : Type 0 where
-  pub words : MoreWords n e (countAt nodes′ n) nodes children cuts nodes′ children′ cuts′
-  pub indexed : MoreIndex (room nodes) n (bucketAt nodes′ children′ cuts′ n) index index′
+pub record OneMore (n e : ℕ) (st : Store) (index : List ℕ) (st′ : Store) (index′ : List ℕ) : Type 0 where
+  pub words : MoreWords n e (countAt (st′ .nodes) n) st st′
+  pub indexed : MoreIndex (room (st .nodes)) n (bucketAt st′ n) index index′

@@ -22,41 +22,42 @@ use Rattle.making.specs.Outcome.{Lent, Outcome, Untouched, tableOf}
 use Rattle.kernel.specs.Makes.{wrongVariable, noRoom, made-4, Conditions}
 use Rattle.kernel.specs.Admitting.{Admits, not-lent, not-kind, admitted}
 use Rattle.kernel.proofs.Handing.{check-refuses, outcome-told}
+use Rattle.table.specs.Layout.{Store}
 
-module _ {nodes children : List ℕ} {cuts : List ℤ} {index : List ℕ} where
+module _ {st : Store} {index : List ℕ} where
   -- the check of a table gives one to work on
-  pub check-lends : {k u e : ℕ} → Checks nodes children cuts index k u e → k ≡ done → Lent (record { used = u; edges = e }) nodes children cuts index
+  pub check-lends : {k u e : ℕ} → Checks st index k u e → k ≡ done → Lent (record { used = u; edges = e }) st index
   check-lends (checked-1 f) q = absurd (omega arith)
   check-lends (checked-2 a f) q = absurd (omega arith)
   check-lends (checked-0 a u s) q = record { allowed = a; sound = s; edges = refl }
 
-  pub admits-not : {kind : Bool} {k u e : ℕ} → Checks nodes children cuts index k u e → k ≡ done → kind ≡ false → Admits nodes children cuts index kind wrongVariable (record { used = u; edges = e })
+  pub admits-not : {kind : Bool} {k u e : ℕ} → Checks st index k u e → k ≡ done → kind ≡ false → Admits st index kind wrongVariable (record { used = u; edges = e })
   admits-not c q e = rw e (not-kind _ (check-lends c q))
 
-  pub admits-it : {kind : Bool} {k u e : ℕ} → Checks nodes children cuts index k u e → k ≡ done → kind ≡ true → Admits nodes children cuts index kind done (record { used = u; edges = e })
+  pub admits-it : {kind : Bool} {k u e : ℕ} → Checks st index k u e → k ≡ done → kind ≡ true → Admits st index kind done (record { used = u; edges = e })
   admits-it c q e = rw e (admitted _ (check-lends c q))
 
   -- what a condition may work on
-  pub admitted-lent : {kind : Type 0} {b : Bool} {k : ℕ} {h : Head} → Decides kind b → Admits nodes children cuts index b k h → k ≡ done → Lent h nodes children cuts index × kind
+  pub admitted-lent : {kind : Type 0} {b : Bool} {k : ℕ} {h : Head} → Decides kind b → Admits st index b k h → k ≡ done → Lent h st index × kind
   admitted-lent d (not-lent b h c n) q = absurd (n q)
   admitted-lent d (not-kind h l) q = absurd (omega arith)
   admitted-lent d (admitted h l) q = (l, proved d refl)
 
-module _ (kind : Type 0) (want : Table → Table × ℕ) (nodes children : List ℕ) (cuts : List ℤ) (index : List ℕ) where
+module _ (kind : Type 0) (want : Table → Table × ℕ) (st : Store) (index : List ℕ) where
   -- rows 1, 2 and 4
-  pub condition-refused : {b : Bool} {k n id : ℕ} {h : Head} → Decides kind b → Admits nodes children cuts index b k h → (k ≡ done → ⊥) → (n ≡ k) × (id ≡ FALSE)
-      → Conditions nodes children cuts index kind want n id nodes children cuts index
-  condition-refused d (not-lent b h c f) x q = rw (q .0, q .1) (check-refuses _ _ kind want nodes children cuts index [] (λ a. a) (λ a. a) c f)
+  pub condition-refused : {b : Bool} {k n id : ℕ} {h : Head} → Decides kind b → Admits st index b k h → (k ≡ done → ⊥) → (n ≡ k) × (id ≡ FALSE)
+      → Conditions st index kind want n id st index
+  condition-refused d (not-lent b h c f) x q = rw (q .0, q .1) (check-refuses _ _ kind want st index [] (λ a. a) (λ a. a) c f)
   condition-refused d (not-kind h l) x q = rw (q .0, q .1) (made-4 (l .allowed) (h .used) (l .sound) tt (refuted d refl))
   condition-refused d (admitted h l) x q = absurd (x refl)
 
   -- rows 6 and 0, from what was made
-  module _ {nodes′ children′ : List ℕ} {cuts′ : List ℤ} {index′ : List ℕ} where
-    pub condition-answered : {h : Head} {made : Table × ℕ} {r : Made} {n id : ℕ} → Lent h nodes children cuts index × kind
-        → Outcome h made r nodes children cuts nodes′ children′ cuts′ index′ × (r .ok ≡ false → Untouched nodes children cuts index nodes′ children′ cuts′ index′)
-        → made ≡ want (tableOf h nodes children cuts) → (n ≡ cond (r .ok) done noRoom) × (id ≡ cond (r .ok) (r .id .0) FALSE)
-        → Conditions nodes children cuts index kind want n id nodes′ children′ cuts′ index′
-    condition-answered (l, p) (o, u) e q = outcome-told _ _ kind want nodes children cuts index [] (l .allowed) l tt p o u refl e q
+  module _ {st′ : Store} {index′ : List ℕ} where
+    pub condition-answered : {h : Head} {made : Table × ℕ} {r : Made} {n id : ℕ} → Lent h st index × kind
+        → Outcome h made r st st′ index′ × (r .ok ≡ false → Untouched st index st′ index′)
+        → made ≡ want (tableOf h st) → (n ≡ cond (r .ok) done noRoom) × (id ≡ cond (r .ok) (r .id .0) FALSE)
+        → Conditions st index kind want n id st′ index′
+    condition-answered (l, p) (o, u) e q = outcome-told _ _ kind want st index [] (l .allowed) l tt p o u refl e q
 
 -- The code hands a variable on as a wide number, and a key as 32 bits.
 pub same-range : (t : Table) {w v : ℕ} (lower upper : Bound) → w ≡ v → from-range t w lower upper ≡ from-range t v lower upper

@@ -9,7 +9,7 @@ use Rattle.ids.specs.Id.{FALSE}
 use Rattle.diagram.specs.Table.{Table}
 use Rattle.diagram.specs.Room.{Fits}
 use Rattle.algebra.specs.Disjointness.{is-disjoint}
-use Rattle.table.specs.Layout.{room}
+use Rattle.table.specs.Layout.{room, Store}
 use Rattle.table.specs.Lent.{SoundLent}
 use Rattle.table.specs.Held.{held}
 use Rattle.table.specs.Told.{done, Allowed, Checks, checked-1, checked-2, checked-0}
@@ -20,53 +20,53 @@ use Rattle.making.proofs.Taken.{cuts-as-long, index-as-long}
 use Rattle.kernel.specs.Makes.{noRoom, Leaves, Makes, made-1, made-2, made-6, made-0, BothKnown, Disjoints, disjoint-1, disjoint-2, disjoint-0}
 
 -- what a call leaves, from a table that is sound again in the same room
-pub leaves-it : {t : Table} (nodes children : List ℕ) (cuts : List ℤ) (index nodes′ children′ : List ℕ) (cuts′ : List ℤ) (index′ : List ℕ) (u : ℕ) → Allowed nodes children cuts index → Allowed nodes′ children′ cuts′ index′
-    → length nodes′ ≡ length nodes → length children′ ≡ length children → SoundLent nodes′ children′ cuts′ index′ u → held nodes′ children′ cuts′ u ≡ t
-    → Leaves t nodes children cuts index nodes′ children′ cuts′ index′
-leaves-it nodes children cuts index nodes′ children′ cuts′ index′ u a b l w s e = record { long = l; wide = w; deep = cuts-as-long a b w; indexed = index-as-long a b l; used = u; sound = s; holds = e }
+pub leaves-it : {t : Table} (st : Store) (index : List ℕ) (st′ : Store) (index′ : List ℕ) (u : ℕ) → Allowed st index → Allowed st′ index′
+    → length (st′ .nodes) ≡ length (st .nodes) → length (st′ .children) ≡ length (st .children) → SoundLent st′ index′ u → held st′ u ≡ t
+    → Leaves t st index st′ index′
+leaves-it st index st′ index′ u a b l w s e = record { long = l; wide = w; deep = cuts-as-long a b w; indexed = index-as-long a b l; used = u; sound = s; holds = e }
 
-module _ (lent : Type 0) (known : ℕ → Type 0) (kind : Type 0) (want : Table → Table × ℕ) (nodes children : List ℕ) (cuts : List ℤ) (index memo : List ℕ) where
+module _ (lent : Type 0) (known : ℕ → Type 0) (kind : Type 0) (want : Table → Table × ℕ) (st : Store) (index memo : List ℕ) where
   -- rows 1 and 2, from the check of the table; the other lengths that a call is lent are right
-  pub check-refuses : {k u e : ℕ} → (Allowed nodes children cuts index → lent) → (lent → Allowed nodes children cuts index) → Checks nodes children cuts index k u e → (k ≡ done → ⊥)
-      → Makes lent known kind want nodes children cuts index memo k FALSE nodes children cuts index memo
+  pub check-refuses : {k u e : ℕ} → (Allowed st index → lent) → (lent → Allowed st index) → Checks st index k u e → (k ≡ done → ⊥)
+      → Makes lent known kind want st index memo k FALSE st index memo
   check-refuses to from (checked-1 f) n = made-1 (λ l. f (from l))
   check-refuses to from (checked-2 a f) n = made-2 (to a) f
   check-refuses to from (checked-0 a u s) n = absurd (n refl)
 
-  module _ {u : ℕ} (l : lent) (s : SoundLent nodes children cuts index u) (a : known u) (v : kind) where
+  module _ {u : ℕ} (l : lent) (s : SoundLent st index u) (a : known u) (v : kind) where
     -- row 6, from words that are as they were
-    pub no-room-it : {nodes′ children′ index′ memo′ : List ℕ} {cuts′ : List ℤ} → (Fits (room nodes) (length children) ((want (held nodes children cuts u)) .0) → ⊥)
-        → nodes′ ≡ nodes → children′ ≡ children → cuts′ ≡ cuts → index′ ≡ index → memo′ ≡ replicate (length memo) 0
-        → Makes lent known kind want nodes children cuts index memo noRoom FALSE nodes′ children′ cuts′ index′ memo′
+    pub no-room-it : {st′ : Store} {index′ memo′ : List ℕ} → (Fits (room (st .nodes)) (length (st .children)) ((want (held st u)) .0) → ⊥)
+        → (st′ .nodes) ≡ (st .nodes) → (st′ .children) ≡ (st .children) → (st′ .cuts) ≡ (st .cuts) → index′ ≡ index → memo′ ≡ replicate (length memo) 0
+        → Makes lent known kind want st index memo noRoom FALSE st′ index′ memo′
     no-room-it f p q r t z = rw (p, q, r, t, z) (made-6 l u s a v f)
 
     -- row 0, from the operation's own table and id
-    pub done-it : {id : ℕ} {nodes′ children′ index′ memo′ : List ℕ} {cuts′ : List ℤ} → Leaves ((want (held nodes children cuts u)) .0) nodes children cuts index nodes′ children′ cuts′ index′
-        → id ≡ (want (held nodes children cuts u)) .1 → memo′ ≡ replicate (length memo) 0 → Makes lent known kind want nodes children cuts index memo done id nodes′ children′ cuts′ index′ memo′
+    pub done-it : {id : ℕ} {st′ : Store} {index′ memo′ : List ℕ} → Leaves ((want (held st u)) .0) st index st′ index′
+        → id ≡ (want (held st u)) .1 → memo′ ≡ replicate (length memo) 0 → Makes lent known kind want st index memo done id st′ index′ memo′
     done-it h e z = rw (e, z) (made-0 l u s a v _ _ _ _ h)
 
   -- both, from what was made
-  module _ {h : Head} {made : Table × ℕ} {r : Made} {nodes′ children′ : List ℕ} {cuts′ : List ℤ} {index′ memo′ : List ℕ} (l : lent) (t : Lent h nodes children cuts index) (a : known (h .used)) (v : kind)
-      (o : Outcome h made r nodes children cuts nodes′ children′ cuts′ index′) (u : r .ok ≡ false → Untouched nodes children cuts index nodes′ children′ cuts′ index′) (z : memo′ ≡ replicate (length memo) 0)
-      (e : made ≡ want (tableOf h nodes children cuts)) where
-    pub outcome-told : {n id : ℕ} → (n ≡ cond (r .ok) done noRoom) × (id ≡ cond (r .ok) (r .id .0) FALSE) → Makes lent known kind want nodes children cuts index memo n id nodes′ children′ cuts′ index′ memo′
+  module _ {h : Head} {made : Table × ℕ} {r : Made} {st′ : Store} {index′ memo′ : List ℕ} (l : lent) (t : Lent h st index) (a : known (h .used)) (v : kind)
+      (o : Outcome h made r st st′ index′) (u : r .ok ≡ false → Untouched st index st′ index′) (z : memo′ ≡ replicate (length memo) 0)
+      (e : made ≡ want (tableOf h st)) where
+    pub outcome-told : {n id : ℕ} → (n ≡ cond (r .ok) done noRoom) × (id ≡ cond (r .ok) (r .id .0) FALSE) → Makes lent known kind want st index memo n id st′ index′ memo′
     outcome-told {n} {id} q = go (r .ok) refl q
       where
-        go : (b : Bool) → r .ok ≡ b → (n ≡ cond b done noRoom) × (id ≡ cond b (r .id .0) FALSE) → Makes lent known kind want nodes children cuts index memo n id nodes′ children′ cuts′ index′ memo′
+        go : (b : Bool) → r .ok ≡ b → (n ≡ cond b done noRoom) × (id ≡ cond b (r .id .0) FALSE) → Makes lent known kind want st index memo n id st′ index′ memo′
         go true y q =
-            let x = leaves-it nodes children cuts index nodes′ children′ cuts′ index′ (r .head .used) (t .allowed) (o .lent .allowed) (o .stays .long) (o .stays .wide) (o .lent .sound) (o .table y ∙ ap (λ (w : Table × ℕ). w .0) e) in
+            let x = leaves-it st index st′ index′ (r .head .used) (t .allowed) (o .lent .allowed) (o .stays .long) (o .stays .wide) (o .lent .sound) (o .table y ∙ ap (λ (w : Table × ℕ). w .0) e) in
             rw (q .0) (done-it l (t .sound) a v x (q .1 ∙ (o .id y ∙ ap (λ (w : Table × ℕ). w .1) e)) z)
         go false y q =
             let w = u y in
             rw (q .0, q .1) (no-room-it l (t .sound) a v (λ f. o .full y (rw e f)) (w .nodes-same) (w .children-same) (w .cuts-same) (w .index-same) z)
 
 -- the same of disjointness
-module _ (nodes children : List ℕ) (cuts : List ℤ) (index : List ℕ) (x y : ℕ) where
-  pub check-says-no : {k u e : ℕ} → Checks nodes children cuts index k u e → (k ≡ done → ⊥) → Disjoints nodes children cuts index x y k false
+module _ (st : Store) (index : List ℕ) (x y : ℕ) where
+  pub check-says-no : {k u e : ℕ} → Checks st index k u e → (k ≡ done → ⊥) → Disjoints st index x y k false
   check-says-no (checked-1 f) n = disjoint-1 f
   check-says-no (checked-2 a f) n = disjoint-2 a f
   check-says-no (checked-0 a u s) n = absurd (n refl)
 
-  pub disjoint-it : {u : ℕ} {b : Bool} → Allowed nodes children cuts index → SoundLent nodes children cuts index u → BothKnown x y u → b ≡ is-disjoint (held nodes children cuts u) x y
-      → Disjoints nodes children cuts index x y done b
+  pub disjoint-it : {u : ℕ} {b : Bool} → Allowed st index → SoundLent st index u → BothKnown x y u → b ≡ is-disjoint (held st u) x y
+      → Disjoints st index x y done b
   disjoint-it {u} a s k e = rw e (disjoint-0 a u s k)

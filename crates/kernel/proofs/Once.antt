@@ -8,7 +8,7 @@ use lib.IntN.{ℤ}
 use Rattle.diagram.specs.Table.{Table}
 use Rattle.diagram.specs.Room.{Fits}
 use Rattle.algebra.specs.Disjointness.{is-disjoint}
-use Rattle.table.specs.Layout.{room}
+use Rattle.table.specs.Layout.{room, Store}
 use Rattle.table.specs.Lent.{SoundLent}
 use Rattle.table.specs.Held.{held}
 use Rattle.table.proofs.Once.{sound-once}
@@ -16,27 +16,27 @@ use Rattle.table.proofs.Promises.{fits-its-room, same-table-same-words}
 use Rattle.kernel.specs.Makes.{Leaves, Makes, made-1, made-2, made-3, made-4, made-6, made-0, BothKnown, Disjoints, disjoint-1, disjoint-2, disjoint-3, disjoint-0}
 
 -- what a call leaves in its room fits it
-pub leaves-fits : {t : Table} {nodes children : List ℕ} {cuts : List ℤ} {index nodes′ children′ : List ℕ} {cuts′ : List ℤ} {index′ : List ℕ}
-    → Leaves t nodes children cuts index nodes′ children′ cuts′ index′ → Fits (room nodes) (length children) t
-leaves-fits {nodes′ = nodes′} {children′} {cuts′} {index′} l =
-    rw (sym (l .long), sym (l .wide), sym (l .holds)) (fits-its-room nodes′ children′ cuts′ index′ (l .used) (l .sound))
+pub leaves-fits : {t : Table} {st : Store} {index : List ℕ} {st′ : Store} {index′ : List ℕ}
+    → Leaves t st index st′ index′ → Fits (room (st .nodes)) (length (st .children)) t
+leaves-fits {st′ = st′} {index′} l =
+    rw (sym (l .long), sym (l .wide), sym (l .holds)) (fits-its-room st′ index′ (l .used) (l .sound))
 
-module _ (lent : Type 0) (known : ℕ → Type 0) (kind : Type 0) (want : Table → Table × ℕ) (nodes children : List ℕ) (cuts : List ℤ) (index memo : List ℕ) where
-  abbrev Out : ℕ → ℕ → List ℕ → List ℕ → List ℤ → List ℕ → List ℕ → Type 0
-  Out k id n c t i m = Makes lent known kind want nodes children cuts index memo k id n c t i m
+module _ (lent : Type 0) (known : ℕ → Type 0) (kind : Type 0) (want : Table → Table × ℕ) (st : Store) (index memo : List ℕ) where
+  abbrev Out : ℕ → ℕ → Store → List ℕ → List ℕ → Type 0
+  Out k id n c t i m = Makes lent known kind want st index memo k id n c t i m
 
-  one : {u u′ : ℕ} → SoundLent nodes children cuts index u → SoundLent nodes children cuts index u′ → u ≡ u′
-  one {u} {u′} s s′ = sound-once nodes children cuts index u u′ s s′
+  one : {u u′ : ℕ} → SoundLent st index u → SoundLent st index u′ → u ≡ u′
+  one {u} {u′} s s′ = sound-once st index u u′ s s′
 
   -- the operation's own result, from the table of u records
   abbrev wanted : ℕ → Table × ℕ
-  wanted u = want (held nodes children cuts u)
+  wanted u = want (held st u)
 
   abbrev Room : ℕ → Type 0
-  Room u = Fits (room nodes) (length children) ((wanted u) .0)
+  Room u = Fits (room (st .nodes)) (length (st .children)) ((wanted u) .0)
 
   -- both are done
-  same-done : {u u′ : ℕ} {n n′ c c′ i i′ : List ℕ} {t t′ : List ℤ} → u ≡ u′ → Leaves ((wanted u) .0) nodes children cuts index n c t i → Leaves ((wanted u′) .0) nodes children cuts index n′ c′ t′ i′
+  same-done : {u u′ : ℕ} {n n′ c c′ i i′ : List ℕ} {t t′ : List ℤ} → u ≡ u′ → Leaves ((wanted u) .0) st index n c t i → Leaves ((wanted u′) .0) st index n′ c′ t′ i′
       → (n ≡ n′) × (c ≡ c′) × (t ≡ t′) × (i ≡ i′)
   same-done {n = n} {n′} {c} {c′} {i} {i′} {t} {t′} e h h′ =
       let w = same-table-same-words n c t i n′ c′ t′ i′ (h .used) (h′ .used) (h .long ∙ sym (h′ .long)) (h .wide ∙ sym (h′ .wide)) (h .deep ∙ sym (h′ .deep)) (h .indexed ∙ sym (h′ .indexed))
@@ -82,9 +82,9 @@ module _ (lent : Type 0) (known : ℕ → Type 0) (kind : Type 0) (want : Table 
   makes-once (made-0 l u s k v _ _ _ _ h) (made-6 l′ u′ s′ k′ v′ f′) = absurd (f′ (subst Room (one s s′) (leaves-fits h)))
   makes-once (made-0 l u s k v _ _ _ _ h) (made-0 l′ u′ s′ k′ v′ _ _ _ _ h′) = let w = same-done (one s s′) h h′ in (refl, ap (λ (m : ℕ). (wanted m) .1) (one s s′), w .0, w .1, w .2, w .3, refl)
 
-module _ (nodes children : List ℕ) (cuts : List ℤ) (index : List ℕ) (x y : ℕ) where
+module _ (st : Store) (index : List ℕ) (x y : ℕ) where
   abbrev Told : ℕ → Bool → Type 0
-  Told k b = Disjoints nodes children cuts index x y k b
+  Told k b = Disjoints st index x y k b
 
   pub disjoints-once : {k k′ : ℕ} {b b′ : Bool} → Told k b → Told k′ b′ → (k ≡ k′) × (b ≡ b′)
   disjoints-once (disjoint-1 f) (disjoint-1 f′) = (refl, refl)
@@ -98,8 +98,8 @@ module _ (nodes children : List ℕ) (cuts : List ℤ) (index : List ℕ) (x y :
   disjoints-once (disjoint-3 l u s f) (disjoint-1 f′) = absurd (f′ l)
   disjoints-once (disjoint-3 l u s f) (disjoint-2 l′ f′) = absurd (f′ u s)
   disjoints-once (disjoint-3 l u s f) (disjoint-3 l′ u′ s′ f′) = (refl, refl)
-  disjoints-once (disjoint-3 l u s f) (disjoint-0 l′ u′ s′ k′) = absurd (f (subst (BothKnown x y) (sound-once nodes children cuts index u′ u s′ s) k′))
+  disjoints-once (disjoint-3 l u s f) (disjoint-0 l′ u′ s′ k′) = absurd (f (subst (BothKnown x y) (sound-once st index u′ u s′ s) k′))
   disjoints-once (disjoint-0 l u s k) (disjoint-1 f′) = absurd (f′ l)
   disjoints-once (disjoint-0 l u s k) (disjoint-2 l′ f′) = absurd (f′ u s)
-  disjoints-once (disjoint-0 l u s k) (disjoint-3 l′ u′ s′ f′) = absurd (f′ (subst (BothKnown x y) (sound-once nodes children cuts index u u′ s s′) k))
-  disjoints-once (disjoint-0 l u s k) (disjoint-0 l′ u′ s′ k′) = (refl, ap (λ (m : ℕ). is-disjoint (held nodes children cuts m) x y) (sound-once nodes children cuts index u u′ s s′))
+  disjoints-once (disjoint-0 l u s k) (disjoint-3 l′ u′ s′ f′) = absurd (f′ (subst (BothKnown x y) (sound-once st index u u′ s s′) k))
+  disjoints-once (disjoint-0 l u s k) (disjoint-0 l′ u′ s′ k′) = (refl, ap (λ (m : ℕ). is-disjoint (held st m) x y) (sound-once st index u u′ s s′))

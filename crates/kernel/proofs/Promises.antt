@@ -25,7 +25,7 @@ use Rattle.algebra.specs.Answering.{Answers}
 use Rattle.algebra.specs.Emptying.{StillChanges, Steady, EmptyAnswer}
 use Rattle.algebra.proofs.Emptied.{steady-or-changing}
 use Rattle.algebra.proofs.Promises.{from-range-answers, comparison-answers, from-bool-answers, and-answers, or-answers, disjoint-exactly, restrict-answers, restrict-range, narrow-answers, narrow-empty-answers, widen-answers, fits-exactly}
-use Rattle.table.specs.Layout.{room}
+use Rattle.table.specs.Layout.{room, Store}
 use Rattle.table.specs.Lent.{SoundLent}
 use Rattle.table.specs.Held.{held}
 use Rattle.table.specs.Told.{done, Allowed}
@@ -40,15 +40,15 @@ abbrev pub Right : (ℕ → Type 0) → Type 0 → (Table → Table × ℕ) → 
 Right known kind want m = (t : Table) → Sound t → known (length t) → kind → Answers t (m t) (want t)
 
 module _ (lent : Type 0) (known : ℕ → Type 0) (kind : Type 0) (want : Table → Table × ℕ) (m : Table → Reading → Bool) (right : Right known kind want m)
-    (nodes children : List ℕ) (cuts : List ℤ) (index memo : List ℕ) where
-  abbrev Out : ℕ → ℕ → List ℕ → List ℕ → List ℤ → List ℕ → List ℕ → Type 0
-  Out k id n c t i z = Makes lent known kind want nodes children cuts index memo k id n c t i z
+    (st : Store) (index memo : List ℕ) where
+  abbrev Out : ℕ → ℕ → Store → List ℕ → List ℕ → Type 0
+  Out k id n c t i z = Makes lent known kind want st index memo k id n c t i z
 
-  right-here : (u : ℕ) → SoundLent nodes children cuts index u → known u → kind → Answers (held nodes children cuts u) (m (held nodes children cuts u)) (want (held nodes children cuts u))
-  right-here u s a v = right (held nodes children cuts u) (holds-a-sound-table nodes children cuts index u s) (subst known (sym ((counts-what-is-held nodes children cuts index u s) .0)) a) v
+  right-here : (u : ℕ) → SoundLent st index u → known u → kind → Answers (held st u) (m (held st u)) (want (held st u))
+  right-here u s a v = right (held st u) (holds-a-sound-table st index u s) (subst known (sym ((counts-what-is-held st index u s) .0)) a) v
 
   -- Number 0: the id is the answer.
-  pub answered : {k id : ℕ} {n c i z : List ℕ} {t : List ℤ} → Out k id n c t i z → k ≡ done → Answered m nodes children cuts index id n c t i
+  pub answered : {k id : ℕ} {n c i z : List ℕ} {t : List ℤ} → Out k id n c t i z → k ≡ done → Answered m st index id n c t i
   answered (made-1 f) e = absurd (omega arith)
   answered (made-2 l f) e = absurd (omega arith)
   answered (made-3 l u s f) e = absurd (omega arith)
@@ -57,19 +57,19 @@ module _ (lent : Type 0) (known : ℕ → Type 0) (kind : Type 0) (want : Table 
   answered (made-0 l u s a v _ _ _ _ h) e = record { before = u; found = s; after = h .used; left = h .sound; answers = rw (h .holds) (right-here u s a v) }
 
   -- Numbers 0 and 6: where the checks 1 to 4 pass, a call is done when there is room for the answer, and says 6 when there is none.
-  pub done-or-no-room : {k id : ℕ} {n c i z : List ℕ} {t : List ℤ} → Out k id n c t i z → lent → (u : ℕ) → SoundLent nodes children cuts index u → known u → kind
-      → DoneOrNoRoom m nodes children cuts u k
+  pub done-or-no-room : {k id : ℕ} {n c i z : List ℕ} {t : List ℤ} → Out k id n c t i z → lent → (u : ℕ) → SoundLent st index u → known u → kind
+      → DoneOrNoRoom m st u k
   done-or-no-room (made-1 f) l u s a v = absurd (f l)
   done-or-no-room (made-2 l′ f) l u s a v = absurd (f u s)
-  done-or-no-room (made-3 l′ u′ s′ f) l u s a v = absurd (f (subst known (sound-once nodes children cuts index u u′ s s′) a))
+  done-or-no-room (made-3 l′ u′ s′ f) l u s a v = absurd (f (subst known (sound-once st index u u′ s s′) a))
   done-or-no-room (made-4 l′ u′ s′ a′ f) l u s a v = absurd (f v)
-  done-or-no-room (made-6 l′ u′ s′ a′ v′ f) l u s a v = inr (refl, λ h. f (fits-exactly _ _ _ (right-here u′ s′ a′ v′) (room nodes) (length children) .0 (subst (HasRoom m nodes children cuts) (sound-once nodes children cuts index u u′ s s′) h)))
+  done-or-no-room (made-6 l′ u′ s′ a′ v′ f) l u s a v = inr (refl, λ h. f (fits-exactly _ _ _ (right-here u′ s′ a′ v′) (room (st .nodes)) (length (st .children)) .0 (subst (HasRoom m st) (sound-once st index u u′ s s′) h)))
   done-or-no-room (made-0 l′ u′ s′ a′ v′ _ _ _ _ h) l u s a v =
-      inl (refl, subst (HasRoom m nodes children cuts) (sound-once nodes children cuts index u′ u s′ s) (fits-exactly _ _ _ (right-here u′ s′ a′ v′) (room nodes) (length children) .1 (leaves-fits h)))
+      inl (refl, subst (HasRoom m st) (sound-once st index u′ u s′ s) (fits-exactly _ _ _ (right-here u′ s′ a′ v′) (room (st .nodes)) (length (st .children)) .1 (leaves-fits h)))
 
-module _ (lent : Type 0) (known : ℕ → Type 0) (kind : Type 0) (want : Table → Table × ℕ) (nodes children : List ℕ) (cuts : List ℤ) (index : List ℕ) where
+module _ (lent : Type 0) (known : ℕ → Type 0) (kind : Type 0) (want : Table → Table × ℕ) (st : Store) (index : List ℕ) where
   -- Number 0 is told where the checks 2 to 4 pass.
-  done-admitted : {k id : ℕ} {memo n c i z : List ℕ} {t : List ℤ} → Makes lent known kind want nodes children cuts index memo k id n c t i z → k ≡ done → (u : ℕ) × SoundLent nodes children cuts index u × known u × kind
+  done-admitted : {k id : ℕ} {memo n c i z : List ℕ} {t : List ℤ} → Makes lent known kind want st index memo k id n c t i z → k ≡ done → (u : ℕ) × SoundLent st index u × known u × kind
   done-admitted (made-1 f) e = absurd (omega arith)
   done-admitted (made-2 l f) e = absurd (omega arith)
   done-admitted (made-3 l u s f) e = absurd (omega arith)
@@ -78,7 +78,7 @@ module _ (lent : Type 0) (known : ℕ → Type 0) (kind : Type 0) (want : Table 
   done-admitted (made-0 l u s a v _ _ _ _ h) e = (u, s, a, v)
 
   -- A refusal answers FALSE and leaves the table as it was found.
-  pub refused-changes-nothing : {k id : ℕ} {memo n c i z : List ℕ} {t : List ℤ} → Makes lent known kind want nodes children cuts index memo k id n c t i z → (k ≡ done → ⊥) → (id ≡ FALSE) × (n ≡ nodes) × (c ≡ children) × (t ≡ cuts) × (i ≡ index)
+  pub refused-changes-nothing : {k id : ℕ} {memo n c i z : List ℕ} {t : List ℤ} → Makes lent known kind want st index memo k id n c t i z → (k ≡ done → ⊥) → (id ≡ FALSE) × (n ≡ (st .nodes)) × (c ≡ (st .children)) × (t ≡ (st .cuts)) × (i ≡ index)
   refused-changes-nothing (made-1 f) e = (refl, refl, refl, refl, refl)
   refused-changes-nothing (made-2 l f) e = (refl, refl, refl, refl, refl)
   refused-changes-nothing (made-3 l u s f) e = (refl, refl, refl, refl, refl)
@@ -150,123 +150,123 @@ module _ (id v : ℕ) (lower upper : Bound) (kl : Keyed lower) (ku : Keyed upper
         let x = narrow-empty-answers t z id a v h lower upper kl ku e (m .0) (m .1) in
         λ ρ. (λ c. x .means ρ ∙ (m .1) ρ .0 c, λ s. x .means ρ ∙ (m .1) ρ .1 s)
 
-    emptied-here : (nodes children : List ℕ) (cuts : List ℤ) (index : List ℕ) (u : ℕ) → SoundLent nodes children cuts index u → KnownTo u id → v < firstBoolean
-        → EmptyAnswer (held nodes children cuts u) v id (emptied id v lower upper (held nodes children cuts u))
-    emptied-here nodes children cuts index u s a h =
-        emptied-as-asked (held nodes children cuts u) (holds-a-sound-table nodes children cuts index u s) (subst (λ (n : ℕ). KnownTo n id) (sym ((counts-what-is-held nodes children cuts index u s) .0)) a) h
+    emptied-here : (st : Store) (index : List ℕ) (u : ℕ) → SoundLent st index u → KnownTo u id → v < firstBoolean
+        → EmptyAnswer (held st u) v id (emptied id v lower upper (held st u))
+    emptied-here st index u s a h =
+        emptied-as-asked (held st u) (holds-a-sound-table st index u s) (subst (λ (n : ℕ). KnownTo n id) (sym ((counts-what-is-held st index u s) .0)) a) h
 
     narrow-empty-right : Right (λ u. KnownTo u id) (v < firstBoolean) (λ t. narrow t v lower upper id) (emptied id v lower upper)
     narrow-empty-right t z a h = narrow-empty-answers t z id a v h lower upper kl ku e (emptied id v lower upper t) (emptied-as-asked t z a h)
 
 -- The calls that may add nodes: what the id says beside 0, and that 0 or 6 is told by whether there is room.
-module _ (nodes children : List ℕ) (cuts : List ℤ) (index : List ℕ) where
+module _ (st : Store) (index : List ℕ) where
   module _ (v : ℕ) {k id : ℕ} {n c i : List ℕ} {t : List ℤ} where
     -- Step 3: a range by two bounds holds where the place is inside,
-    pub from-range-answered : (lower upper : Bound) → Keyed lower → Keyed upper → FromRange nodes children cuts index v lower upper k id n c t i → k ≡ done → Answered (λ s ρ. inside lower upper (ρ .place v)) nodes children cuts index id n c t i
-    from-range-answered lower upper kl ku o = answered _ _ _ _ _ (from-range-right v lower upper kl ku) nodes children cuts index _ o
+    pub from-range-answered : (lower upper : Bound) → Keyed lower → Keyed upper → FromRange st index v lower upper k id n c t i → k ≡ done → Answered (λ s ρ. inside lower upper (ρ .place v)) st index id n c t i
+    from-range-answered lower upper kl ku o = answered _ _ _ _ _ (from-range-right v lower upper kl ku) st index _ o
 
-    pub from-range-room : (lower upper : Bound) → Keyed lower → Keyed upper → FromRange nodes children cuts index v lower upper k id n c t i → Allowed nodes children cuts index → (u : ℕ) → SoundLent nodes children cuts index u → v < firstBoolean → DoneOrNoRoom (λ s ρ. inside lower upper (ρ .place v)) nodes children cuts u k
-    from-range-room lower upper kl ku o l u s h = done-or-no-room _ _ _ _ _ (from-range-right v lower upper kl ku) nodes children cuts index _ o l u s tt h
+    pub from-range-room : (lower upper : Bound) → Keyed lower → Keyed upper → FromRange st index v lower upper k id n c t i → Allowed st index → (u : ℕ) → SoundLent st index u → v < firstBoolean → DoneOrNoRoom (λ s ρ. inside lower upper (ρ .place v)) st u k
+    from-range-room lower upper kl ku o l u s h = done-or-no-room _ _ _ _ _ (from-range-right v lower upper kl ku) st index _ o l u s tt h
 
     -- a comparison where the place compares so with the key,
-    pub comparison-answered : (op : Comparison) (key : ℤ) → Key key → Compares nodes children cuts index v op key k id n c t i → k ≡ done → Answered (λ s ρ. compares op key (ρ .place v)) nodes children cuts index id n c t i
-    comparison-answered op key kk o = answered _ _ _ _ _ (comparison-right v op key kk) nodes children cuts index _ o
+    pub comparison-answered : (op : Comparison) (key : ℤ) → Key key → Compares st index v op key k id n c t i → k ≡ done → Answered (λ s ρ. compares op key (ρ .place v)) st index id n c t i
+    comparison-answered op key kk o = answered _ _ _ _ _ (comparison-right v op key kk) st index _ o
 
-    pub comparison-room : (op : Comparison) (key : ℤ) → Key key → Compares nodes children cuts index v op key k id n c t i → Allowed nodes children cuts index → (u : ℕ) → SoundLent nodes children cuts index u → v < firstBoolean → DoneOrNoRoom (λ s ρ. compares op key (ρ .place v)) nodes children cuts u k
-    comparison-room op key kk o l u s h = done-or-no-room _ _ _ _ _ (comparison-right v op key kk) nodes children cuts index _ o l u s tt h
+    pub comparison-room : (op : Comparison) (key : ℤ) → Key key → Compares st index v op key k id n c t i → Allowed st index → (u : ℕ) → SoundLent st index u → v < firstBoolean → DoneOrNoRoom (λ s ρ. compares op key (ρ .place v)) st u k
+    comparison-room op key kk o l u s h = done-or-no-room _ _ _ _ _ (comparison-right v op key kk) st index _ o l u s tt h
 
     -- and a boolean where it is yes.
-    pub from-bool-answered : FromBool nodes children cuts index v k id n c t i → k ≡ done → Answered (λ s ρ. ρ .holds v) nodes children cuts index id n c t i
-    from-bool-answered o = answered _ _ _ _ _ (from-bool-right v) nodes children cuts index _ o
+    pub from-bool-answered : FromBool st index v k id n c t i → k ≡ done → Answered (λ s ρ. ρ .holds v) st index id n c t i
+    from-bool-answered o = answered _ _ _ _ _ (from-bool-right v) st index _ o
 
-    pub from-bool-room : FromBool nodes children cuts index v k id n c t i → Allowed nodes children cuts index → (u : ℕ) → SoundLent nodes children cuts index u → (firstBoolean ≤ v) × (v < variables) → DoneOrNoRoom (λ s ρ. ρ .holds v) nodes children cuts u k
-    from-bool-room o l u s h = done-or-no-room _ _ _ _ _ (from-bool-right v) nodes children cuts index _ o l u s tt h
+    pub from-bool-room : FromBool st index v k id n c t i → Allowed st index → (u : ℕ) → SoundLent st index u → (firstBoolean ≤ v) × (v < variables) → DoneOrNoRoom (λ s ρ. ρ .holds v) st u k
+    from-bool-room o l u s h = done-or-no-room _ _ _ _ _ (from-bool-right v) st index _ o l u s tt h
 
   module _ (memo : List ℕ) (x y : ℕ) {k id : ℕ} {n c i z : List ℕ} {t : List ℤ} where
     -- Step 5: conjunction says both,
-    pub and-answered : Ands nodes children cuts index memo x y k id n c t i z → k ≡ done → Answered (λ s ρ. says s ρ x && says s ρ y) nodes children cuts index id n c t i
-    and-answered o = answered _ _ _ _ _ (and-right x y) nodes children cuts index memo o
+    pub and-answered : Ands st index memo x y k id n c t i z → k ≡ done → Answered (λ s ρ. says s ρ x && says s ρ y) st index id n c t i
+    and-answered o = answered _ _ _ _ _ (and-right x y) st index memo o
 
-    pub and-room : Ands nodes children cuts index memo x y k id n c t i z → Lending nodes children cuts index memo → (u : ℕ) → SoundLent nodes children cuts index u → BothKnown x y u → DoneOrNoRoom (λ s ρ. says s ρ x && says s ρ y) nodes children cuts u k
-    and-room o l u s a = done-or-no-room _ _ _ _ _ (and-right x y) nodes children cuts index memo o l u s a tt
+    pub and-room : Ands st index memo x y k id n c t i z → Lending st index memo → (u : ℕ) → SoundLent st index u → BothKnown x y u → DoneOrNoRoom (λ s ρ. says s ρ x && says s ρ y) st u k
+    and-room o l u s a = done-or-no-room _ _ _ _ _ (and-right x y) st index memo o l u s a tt
 
     -- and disjunction either.
-    pub or-answered : Ors nodes children cuts index memo x y k id n c t i z → k ≡ done → Answered (λ s ρ. says s ρ x || says s ρ y) nodes children cuts index id n c t i
-    or-answered o = answered _ _ _ _ _ (or-right x y) nodes children cuts index memo o
+    pub or-answered : Ors st index memo x y k id n c t i z → k ≡ done → Answered (λ s ρ. says s ρ x || says s ρ y) st index id n c t i
+    or-answered o = answered _ _ _ _ _ (or-right x y) st index memo o
 
-    pub or-room : Ors nodes children cuts index memo x y k id n c t i z → Lending nodes children cuts index memo → (u : ℕ) → SoundLent nodes children cuts index u → BothKnown x y u → DoneOrNoRoom (λ s ρ. says s ρ x || says s ρ y) nodes children cuts u k
-    or-room o l u s a = done-or-no-room _ _ _ _ _ (or-right x y) nodes children cuts index memo o l u s a tt
+    pub or-room : Ors st index memo x y k id n c t i z → Lending st index memo → (u : ℕ) → SoundLent st index u → BothKnown x y u → DoneOrNoRoom (λ s ρ. says s ρ x || says s ρ y) st u k
+    or-room o l u s a = done-or-no-room _ _ _ _ _ (or-right x y) st index memo o l u s a tt
 
   -- Steps 7 to 9, of an id and a variable.
   module _ (memo : List ℕ) (id v : ℕ) {k to : ℕ} {n c i z : List ℕ} {t : List ℤ} where
     -- Restriction of a boolean says what the id says with the boolean at the value,
-    pub restrict-answered : (value : Bool) → firstBoolean ≤ v → Restricts nodes children cuts index memo id v value k to n c t i z → k ≡ done → Answered (λ s ρ. says s (switched ρ v value) id) nodes children cuts index to n c t i
-    restrict-answered value b o = answered _ _ _ _ _ (restrict-right id v value b) nodes children cuts index memo o
+    pub restrict-answered : (value : Bool) → firstBoolean ≤ v → Restricts st index memo id v value k to n c t i z → k ≡ done → Answered (λ s ρ. says s (switched ρ v value) id) st index to n c t i
+    restrict-answered value b o = answered _ _ _ _ _ (restrict-right id v value b) st index memo o
 
-    pub restrict-room : (value : Bool) → firstBoolean ≤ v → Restricts nodes children cuts index memo id v value k to n c t i z → Lending nodes children cuts index memo → (u : ℕ) → SoundLent nodes children cuts index u → KnownTo u id → v < variables
-        → DoneOrNoRoom (λ s ρ. says s (switched ρ v value) id) nodes children cuts u k
-    restrict-room value b o l u s a h = done-or-no-room _ _ _ _ _ (restrict-right id v value b) nodes children cuts index memo o l u s a h
+    pub restrict-room : (value : Bool) → firstBoolean ≤ v → Restricts st index memo id v value k to n c t i z → Lending st index memo → (u : ℕ) → SoundLent st index u → KnownTo u id → v < variables
+        → DoneOrNoRoom (λ s ρ. says s (switched ρ v value) id) st u k
+    restrict-room value b o l u s a h = done-or-no-room _ _ _ _ _ (restrict-right id v value b) st index memo o l u s a h
 
     -- and of a range variable what the id says.
-    pub restrict-range-answered : (value : Bool) → v < firstBoolean → Restricts nodes children cuts index memo id v value k to n c t i z → k ≡ done → Answered (λ s ρ. says s ρ id) nodes children cuts index to n c t i
-    restrict-range-answered value b o = answered _ _ _ _ _ (restrict-range-right id v value b) nodes children cuts index memo o
+    pub restrict-range-answered : (value : Bool) → v < firstBoolean → Restricts st index memo id v value k to n c t i z → k ≡ done → Answered (λ s ρ. says s ρ id) st index to n c t i
+    restrict-range-answered value b o = answered _ _ _ _ _ (restrict-range-right id v value b) st index memo o
 
-    pub restrict-range-room : (value : Bool) → v < firstBoolean → Restricts nodes children cuts index memo id v value k to n c t i z → Lending nodes children cuts index memo → (u : ℕ) → SoundLent nodes children cuts index u → KnownTo u id
-        → DoneOrNoRoom (λ s ρ. says s ρ id) nodes children cuts u k
-    restrict-range-room value b o l u s a = done-or-no-room _ _ _ _ _ (restrict-range-right id v value b) nodes children cuts index memo o l u s a (omega arith)
+    pub restrict-range-room : (value : Bool) → v < firstBoolean → Restricts st index memo id v value k to n c t i z → Lending st index memo → (u : ℕ) → SoundLent st index u → KnownTo u id
+        → DoneOrNoRoom (λ s ρ. says s ρ id) st u k
+    restrict-range-room value b o l u s a = done-or-no-room _ _ _ _ _ (restrict-range-right id v value b) st index memo o l u s a (omega arith)
 
     module _ (lower upper : Bound) (kl : Keyed lower) (ku : Keyed upper) where
       -- Narrowing: "the answer at a place is the old answer at the nearest place inside the bounds";
-      pub narrow-answered : empty lower upper ≡ false → Narrows nodes children cuts index memo id v lower upper k to n c t i z → k ≡ done
-          → Answered (λ s ρ. says s (atNearest v lower upper kl ku ρ) id) nodes children cuts index to n c t i
-      narrow-answered e o = answered _ _ _ _ _ (narrow-right id v lower upper kl ku e) nodes children cuts index memo o
+      pub narrow-answered : empty lower upper ≡ false → Narrows st index memo id v lower upper k to n c t i z → k ≡ done
+          → Answered (λ s ρ. says s (atNearest v lower upper kl ku ρ) id) st index to n c t i
+      narrow-answered e o = answered _ _ _ _ _ (narrow-right id v lower upper kl ku e) st index memo o
 
-      pub narrow-room : empty lower upper ≡ false → Narrows nodes children cuts index memo id v lower upper k to n c t i z → Lending nodes children cuts index memo → (u : ℕ) → SoundLent nodes children cuts index u → KnownTo u id → v < firstBoolean
-          → DoneOrNoRoom (λ s ρ. says s (atNearest v lower upper kl ku ρ) id) nodes children cuts u k
-      narrow-room e o l u s a h = done-or-no-room _ _ _ _ _ (narrow-right id v lower upper kl ku e) nodes children cuts index memo o l u s a h
+      pub narrow-room : empty lower upper ≡ false → Narrows st index memo id v lower upper k to n c t i z → Lending st index memo → (u : ℕ) → SoundLent st index u → KnownTo u id → v < firstBoolean
+          → DoneOrNoRoom (λ s ρ. says s (atNearest v lower upper kl ku ρ) id) st u k
+      narrow-room e o l u s a h = done-or-no-room _ _ _ _ _ (narrow-right id v lower upper kl ku e) st index memo o l u s a h
 
       -- "with empty bounds the answer is FALSE wherever, the earlier variables being fixed, the old answer still changes with the chosen
       -- one; elsewhere it is the old answer".
-      pub narrow-empty-answered : empty lower upper ≡ true → Narrows nodes children cuts index memo id v lower upper k to n c t i z → k ≡ done → EmptyAnswered id v nodes children cuts index to n c t i
+      pub narrow-empty-answered : empty lower upper ≡ true → Narrows st index memo id v lower upper k to n c t i z → k ≡ done → EmptyAnswered id v st index to n c t i
       narrow-empty-answered e o d =
-          let x = answered _ _ _ _ _ (narrow-empty-right id v lower upper kl ku e) nodes children cuts index memo o d in
-          let y = done-admitted _ _ _ _ nodes children cuts index o d in
+          let x = answered _ _ _ _ _ (narrow-empty-right id v lower upper kl ku e) st index memo o d in
+          let y = done-admitted _ _ _ _ st index o d in
           record {
-            m = emptied id v lower upper (held nodes children cuts (x .before));
+            m = emptied id v lower upper (held st (x .before));
             answered = record { before = x .before; found = x .found; after = x .after; left = x .left; answers = x .answers };
-            empties = emptied-here id v lower upper kl ku e nodes children cuts index (x .before) (x .found) (subst (λ (u : ℕ). KnownTo u id) (sound-once nodes children cuts index (y .0) (x .before) (y .1) (x .found)) (y .2)) (y .3);
+            empties = emptied-here id v lower upper kl ku e st index (x .before) (x .found) (subst (λ (u : ℕ). KnownTo u id) (sound-once st index (y .0) (x .before) (y .1) (x .found)) (y .2)) (y .3);
           }
 
-      pub narrow-empty-room : empty lower upper ≡ true → Narrows nodes children cuts index memo id v lower upper k to n c t i z → Lending nodes children cuts index memo → (u : ℕ) → SoundLent nodes children cuts index u → KnownTo u id → v < firstBoolean
-          → EmptyDoneOrNoRoom id v nodes children cuts u k
+      pub narrow-empty-room : empty lower upper ≡ true → Narrows st index memo id v lower upper k to n c t i z → Lending st index memo → (u : ℕ) → SoundLent st index u → KnownTo u id → v < firstBoolean
+          → EmptyDoneOrNoRoom id v st u k
       narrow-empty-room e o l u s a h = record {
-        m = emptied id v lower upper (held nodes children cuts u);
-        empties = emptied-here id v lower upper kl ku e nodes children cuts index u s a h;
-        told = done-or-no-room _ _ _ _ _ (narrow-empty-right id v lower upper kl ku e) nodes children cuts index memo o l u s a h;
+        m = emptied id v lower upper (held st u);
+        empties = emptied-here id v lower upper kl ku e st index u s a h;
+        told = done-or-no-room _ _ _ _ _ (narrow-empty-right id v lower upper kl ku e) st index memo o l u s a h;
       }
 
       -- Widening: "old answer and inside the bounds".
-      pub widen-answered : Widens nodes children cuts index memo id v lower upper k to n c t i z → k ≡ done → Answered (λ s ρ. says s ρ id && inside lower upper (ρ .place v)) nodes children cuts index to n c t i
-      widen-answered o = answered _ _ _ _ _ (widen-right id v lower upper kl ku) nodes children cuts index memo o
+      pub widen-answered : Widens st index memo id v lower upper k to n c t i z → k ≡ done → Answered (λ s ρ. says s ρ id && inside lower upper (ρ .place v)) st index to n c t i
+      widen-answered o = answered _ _ _ _ _ (widen-right id v lower upper kl ku) st index memo o
 
-      pub widen-room : Widens nodes children cuts index memo id v lower upper k to n c t i z → Lending nodes children cuts index memo → (u : ℕ) → SoundLent nodes children cuts index u → KnownTo u id → v < firstBoolean
-          → DoneOrNoRoom (λ s ρ. says s ρ id && inside lower upper (ρ .place v)) nodes children cuts u k
-      widen-room o l u s a h = done-or-no-room _ _ _ _ _ (widen-right id v lower upper kl ku) nodes children cuts index memo o l u s a h
+      pub widen-room : Widens st index memo id v lower upper k to n c t i z → Lending st index memo → (u : ℕ) → SoundLent st index u → KnownTo u id → v < firstBoolean
+          → DoneOrNoRoom (λ s ρ. says s ρ id && inside lower upper (ρ .place v)) st u k
+      widen-room o l u s a h = done-or-no-room _ _ _ _ _ (widen-right id v lower upper kl ku) st index memo o l u s a h
 
 -- Step 6: disjointness beside 0 is yes exactly when no reading makes both true.
-pub disjoint-told : (nodes children : List ℕ) (cuts : List ℤ) (index : List ℕ) (x y : ℕ) {k : ℕ} {b : Bool} → Disjoints nodes children cuts index x y k b → k ≡ done
-    → (u : ℕ) × SoundLent nodes children cuts index u × ((b ≡ true) ↔ ((ρ : Reading) → (says (held nodes children cuts u) ρ x && says (held nodes children cuts u) ρ y) ≡ false))
-disjoint-told nodes children cuts index x y (disjoint-1 f) e = absurd (omega arith)
-disjoint-told nodes children cuts index x y (disjoint-2 l f) e = absurd (omega arith)
-disjoint-told nodes children cuts index x y (disjoint-3 l u s f) e = absurd (omega arith)
-disjoint-told nodes children cuts index x y (disjoint-0 l u s a) e =
-    let q = (counts-what-is-held nodes children cuts index u s) .0 in
-    (u, s, disjoint-exactly (held nodes children cuts u) (holds-a-sound-table nodes children cuts index u s) x y (omega (arith, a .0)) (omega (arith, a .1)))
+pub disjoint-told : (st : Store) (index : List ℕ) (x y : ℕ) {k : ℕ} {b : Bool} → Disjoints st index x y k b → k ≡ done
+    → (u : ℕ) × SoundLent st index u × ((b ≡ true) ↔ ((ρ : Reading) → (says (held st u) ρ x && says (held st u) ρ y) ≡ false))
+disjoint-told st index x y (disjoint-1 f) e = absurd (omega arith)
+disjoint-told st index x y (disjoint-2 l f) e = absurd (omega arith)
+disjoint-told st index x y (disjoint-3 l u s f) e = absurd (omega arith)
+disjoint-told st index x y (disjoint-0 l u s a) e =
+    let q = (counts-what-is-held st index u s) .0 in
+    (u, s, disjoint-exactly (held st u) (holds-a-sound-table st index u s) x y (omega (arith, a .0)) (omega (arith, a .1)))
 
 -- The memo is "never believed": whatever it held, a call gives the same number, the same id and the same table.
-module _ {lent lent″ : Type 0} (to : lent → lent″) (back : lent″ → lent) (known : ℕ → Type 0) (kind : Type 0) (want : Table → Table × ℕ) (nodes children : List ℕ) (cuts : List ℤ) (index memo memo″ : List ℕ) where
-  with-memo : {k id : ℕ} {n c i z : List ℕ} {t : List ℤ} → Makes lent known kind want nodes children cuts index memo k id n c t i z
-      → (z″ : List ℕ) × Makes lent″ known kind want nodes children cuts index memo″ k id n c t i z″
+module _ {lent lent″ : Type 0} (to : lent → lent″) (back : lent″ → lent) (known : ℕ → Type 0) (kind : Type 0) (want : Table → Table × ℕ) (st : Store) (index memo memo″ : List ℕ) where
+  with-memo : {k id : ℕ} {n c i z : List ℕ} {t : List ℤ} → Makes lent known kind want st index memo k id n c t i z
+      → (z″ : List ℕ) × Makes lent″ known kind want st index memo″ k id n c t i z″
   with-memo (made-1 f) = (memo″, made-1 (λ l. f (back l)))
   with-memo (made-2 l f) = (memo″, made-2 (to l) f)
   with-memo (made-3 l u s f) = (memo″, made-3 (to l) u s f)
@@ -274,10 +274,10 @@ module _ {lent lent″ : Type 0} (to : lent → lent″) (back : lent″ → len
   with-memo (made-6 l u s a v f) = (replicate (length memo″) 0, made-6 (to l) u s a v f)
   with-memo (made-0 l u s a v n c t i h) = (replicate (length memo″) 0, made-0 (to l) u s a v n c t i h)
 
-pub memo-never-believed : (known : ℕ → Type 0) (kind : Type 0) (want : Table → Table × ℕ) (nodes children : List ℕ) (cuts : List ℤ) (index memo memo″ : List ℕ) → length memo ≡ length memo″ → {k k″ id id″ : ℕ} {n n″ c c″ i i″ z z″ : List ℕ} {t t″ : List ℤ}
-    → WithMemo nodes children cuts index memo known kind want k id n c t i z → WithMemo nodes children cuts index memo″ known kind want k″ id″ n″ c″ t″ i″ z″
+pub memo-never-believed : (known : ℕ → Type 0) (kind : Type 0) (want : Table → Table × ℕ) (st : Store) (index memo memo″ : List ℕ) → length memo ≡ length memo″ → {k k″ id id″ : ℕ} {n n″ c c″ i i″ z z″ : List ℕ} {t t″ : List ℤ}
+    → WithMemo st index memo known kind want k id n c t i z → WithMemo st index memo″ known kind want k″ id″ n″ c″ t″ i″ z″
     → (k ≡ k″) × (id ≡ id″) × (n ≡ n″) × (c ≡ c″) × (t ≡ t″) × (i ≡ i″)
-memo-never-believed known kind want nodes children cuts index memo memo″ e o o″ =
-    let w = with-memo {lent″ = Lending nodes children cuts index memo″} (λ l. (l .0, sym e ∙ l .1)) (λ l. (l .0, e ∙ l .1)) known kind want nodes children cuts index memo memo″ o in
-    let q = makes-once (Lending nodes children cuts index memo″) known kind want nodes children cuts index memo″ (w .1) o″ in
+memo-never-believed known kind want st index memo memo″ e o o″ =
+    let w = with-memo {lent″ = Lending st index memo″} (λ l. (l .0, sym e ∙ l .1)) (λ l. (l .0, e ∙ l .1)) known kind want st index memo memo″ o in
+    let q = makes-once (Lending st index memo″) known kind want st index memo″ (w .1) o″ in
     (q .0, q .1, q .2, q .3, q .4, q .5)

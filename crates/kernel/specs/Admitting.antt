@@ -4,23 +4,23 @@ use mathlib.Core.Bool.{Bool, true, false}
 use mathlib.Core.List.{List}
 use Prim.Native.Nat.{ℕ, _*_}
 use lib.IntN.{ℤ}
-use Rattle.table.specs.Layout.{room}
+use Rattle.table.specs.Layout.{room, Store}
 use Rattle.table.specs.Told.{done, wrongRoom, unknownId, Checks}
 use Rattle.making.specs.declared.nodes.Head.{Head}
 use Rattle.making.specs.Outcome.{Lent}
 use Rattle.kernel.specs.Makes.{wrongVariable, BothKnown}
 
 -- In the order of the checks: a refusal by the check of the table, a variable that is not of the kind that is asked, or a table to work on.
-pub data Admits (nodes children : List ℕ) (cuts : List ℤ) (index : List ℕ) : Bool → ℕ → Head → Type 0 where
-  not-lent : (kind : Bool) (h : Head) {k u e : ℕ} → Checks nodes children cuts index k u e → (k ≡ done → ⊥) → Admits nodes children cuts index kind k h
-  not-kind : (h : Head) → Lent h nodes children cuts index → Admits nodes children cuts index false wrongVariable h
-  admitted : (h : Head) → Lent h nodes children cuts index → Admits nodes children cuts index true done h
+pub data Admits (st : Store) (index : List ℕ) : Bool → ℕ → Head → Type 0 where
+  not-lent : (kind : Bool) (h : Head) {k u e : ℕ} → Checks st index k u e → (k ≡ done → ⊥) → Admits st index kind k h
+  not-kind : (h : Head) → Lent h st index → Admits st index false wrongVariable h
+  admitted : (h : Head) → Lent h st index → Admits st index true done h
 
 -- The same for a call that is given two ids, or one id twice, and is lent a memo of n words: its length is not the one for the room, a refusal
 -- by the check of the table, an id that is not known, a variable that is not of the kind that is asked, or a table to work on.
-pub data AdmitsIds (nodes children : List ℕ) (cuts : List ℤ) (index : List ℕ) (n x y : ℕ) : Bool → ℕ → Head → Type 0 where
-  ids-not-long : (kind : Bool) (h : Head) → (n ≡ room nodes * 3 → ⊥) → AdmitsIds nodes children cuts index n x y kind wrongRoom h
-  ids-not-lent : (kind : Bool) (h : Head) {k u e : ℕ} → n ≡ room nodes * 3 → Checks nodes children cuts index k u e → (k ≡ done → ⊥) → AdmitsIds nodes children cuts index n x y kind k h
-  ids-not-known : (kind : Bool) (h : Head) → n ≡ room nodes * 3 → Lent h nodes children cuts index → (BothKnown x y (h .used) → ⊥) → AdmitsIds nodes children cuts index n x y kind unknownId h
-  ids-not-kind : (h : Head) → n ≡ room nodes * 3 → Lent h nodes children cuts index → BothKnown x y (h .used) → AdmitsIds nodes children cuts index n x y false wrongVariable h
-  ids-admitted : (h : Head) → n ≡ room nodes * 3 → Lent h nodes children cuts index → BothKnown x y (h .used) → AdmitsIds nodes children cuts index n x y true done h
+pub data AdmitsIds (st : Store) (index : List ℕ) (n x y : ℕ) : Bool → ℕ → Head → Type 0 where
+  ids-not-long : (kind : Bool) (h : Head) → (n ≡ room (st .nodes) * 3 → ⊥) → AdmitsIds st index n x y kind wrongRoom h
+  ids-not-lent : (kind : Bool) (h : Head) {k u e : ℕ} → n ≡ room (st .nodes) * 3 → Checks st index k u e → (k ≡ done → ⊥) → AdmitsIds st index n x y kind k h
+  ids-not-known : (kind : Bool) (h : Head) → n ≡ room (st .nodes) * 3 → Lent h st index → (BothKnown x y (h .used) → ⊥) → AdmitsIds st index n x y kind unknownId h
+  ids-not-kind : (h : Head) → n ≡ room (st .nodes) * 3 → Lent h st index → BothKnown x y (h .used) → AdmitsIds st index n x y false wrongVariable h
+  ids-admitted : (h : Head) → n ≡ room (st .nodes) * 3 → Lent h st index → BothKnown x y (h .used) → AdmitsIds st index n x y true done h

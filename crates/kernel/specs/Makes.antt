@@ -16,7 +16,7 @@ use Rattle.algebra.specs.Conditions.{from-range, comparison, from-bool}
 use Rattle.algebra.specs.Conjunction.{and, or}
 use Rattle.algebra.specs.Changing.{restrict, narrow, widen}
 use Rattle.algebra.specs.Disjointness.{is-disjoint}
-use Rattle.table.specs.Layout.{room}
+use Rattle.table.specs.Layout.{room, Store}
 use Rattle.table.specs.Lent.{SoundLent}
 use Rattle.table.specs.Held.{held}
 use Rattle.table.specs.Told.{done, wrongRoom, notSound, unknownId, Allowed, Unsound}
@@ -29,14 +29,14 @@ abbrev pub noRoom : ℕ
 noRoom = 6
 
 -- "The table with only the answer's missing nodes added": in the room that was lent, sound, and holding this table.
-pub record Leaves (t : Table) (nodes children : List ℕ) (cuts : List ℤ) (index nodes′ children′ : List ℕ) (cuts′ : List ℤ) (index′ : List ℕ) : Type 0 where
-  pub long : length nodes′ ≡ length nodes
-  pub wide : length children′ ≡ length children
-  pub deep : length cuts′ ≡ length cuts
+pub record Leaves (t : Table) (st : Store) (index : List ℕ) (st′ : Store) (index′ : List ℕ) : Type 0 where
+  pub long : length (st′ .nodes) ≡ length (st .nodes)
+  pub wide : length (st′ .children) ≡ length (st .children)
+  pub deep : length (st′ .cuts) ≡ length (st .cuts)
   pub indexed : length index′ ≡ length index
   pub used : ℕ
-  pub sound : SoundLent nodes′ children′ cuts′ index′ used
-  pub holds : held nodes′ children′ cuts′ used ≡ t
+  pub sound : SoundLent st′ index′ used
+  pub holds : held st′ used ≡ t
 
 -- A call that may add nodes: its number, its id, and every word after it. It is given
 --   lent   that the lengths are allowed,
@@ -44,41 +44,41 @@ pub record Leaves (t : Table) (nodes children : List ℕ) (cuts : List ℤ) (ind
 --   kind   that the variable is one of the kind that the call asks,
 --   want   the table and the id that the operation makes from a table,
 -- and the words before it.
-module _ (lent : Type 0) (known : ℕ → Type 0) (kind : Type 0) (want : Table → Table × ℕ) (nodes children : List ℕ) (cuts : List ℤ) (index memo : List ℕ) where
-  pub data Makes : ℕ → ℕ → List ℕ → List ℕ → List ℤ → List ℕ → List ℕ → Type 0 where
+module _ (lent : Type 0) (known : ℕ → Type 0) (kind : Type 0) (want : Table → Table × ℕ) (st : Store) (index memo : List ℕ) where
+  pub data Makes : ℕ → ℕ → Store → List ℕ → List ℕ → Type 0 where
     -- "a room or length isn't allowed": "id 1, everything as found"
-    made-1 : (lent → ⊥) → Makes wrongRoom FALSE nodes children cuts index memo
+    made-1 : (lent → ⊥) → Makes wrongRoom FALSE st index memo
     -- "the table isn't sound"
-    made-2 : lent → Unsound nodes children cuts index → Makes notSound FALSE nodes children cuts index memo
+    made-2 : lent → Unsound st index → Makes notSound FALSE st index memo
     -- "an id is no terminal and names no used node"
-    made-3 : lent → (u : ℕ) → SoundLent nodes children cuts index u → (known u → ⊥) → Makes unknownId FALSE nodes children cuts index memo
+    made-3 : lent → (u : ℕ) → SoundLent st index u → (known u → ⊥) → Makes unknownId FALSE st index memo
     -- "a variable is 64 or more, or of the wrong kind where a kind is asked"
-    made-4 : lent → (u : ℕ) → SoundLent nodes children cuts index u → known u → (kind → ⊥) → Makes wrongVariable FALSE nodes children cuts index memo
+    made-4 : lent → (u : ℕ) → SoundLent st index u → known u → (kind → ⊥) → Makes wrongVariable FALSE st index memo
     -- what the operation makes does not fit the room: "id 1, table as found, memo all zero"
-    made-6 : lent → (u : ℕ) → SoundLent nodes children cuts index u → known u → kind
-        → (Fits (room nodes) (length children) ((want (held nodes children cuts u)) .0) → ⊥)
-        → Makes noRoom FALSE nodes children cuts index (replicate (length memo) 0)
+    made-6 : lent → (u : ℕ) → SoundLent st index u → known u → kind
+        → (Fits (room (st .nodes)) (length (st .children)) ((want (held st u)) .0) → ⊥)
+        → Makes noRoom FALSE st index (replicate (length memo) 0)
     -- "done": the operation's id, and a table that holds what it makes; "memo all zero if one was lent"
-    made-0 : lent → (u : ℕ) → SoundLent nodes children cuts index u → known u → kind
-        → (nodes′ children′ : List ℕ) (cuts′ : List ℤ) (index′ : List ℕ) → Leaves ((want (held nodes children cuts u)) .0) nodes children cuts index nodes′ children′ cuts′ index′
-        → Makes done ((want (held nodes children cuts u)) .1) nodes′ children′ cuts′ index′ (replicate (length memo) 0)
+    made-0 : lent → (u : ℕ) → SoundLent st index u → known u → kind
+        → (st′ : Store) (index′ : List ℕ) → Leaves ((want (held st u)) .0) st index st′ index′
+        → Makes done ((want (held st u)) .1) st′ index′ (replicate (length memo) 0)
 
 -- What may come of a call: a number, an id and the words of a table, and of one that is lent a memo those too.
 abbrev pub Outcomes : Type 1
-Outcomes = ℕ → ℕ → List ℕ → List ℕ → List ℤ → List ℕ → Type 0
+Outcomes = ℕ → ℕ → Store → List ℕ → Type 0
 
 abbrev pub MemoOutcomes : Type 1
-MemoOutcomes = ℕ → ℕ → List ℕ → List ℕ → List ℤ → List ℕ → List ℕ → Type 0
+MemoOutcomes = ℕ → ℕ → Store → List ℕ → List ℕ → Type 0
 
 -- Both of two ids are known, where u nodes are used.
 abbrev pub BothKnown : ℕ → ℕ → ℕ → Type 0
 BothKnown x y u = KnownTo u x × KnownTo u y
 
-module _ (nodes children : List ℕ) (cuts : List ℤ) (index : List ℕ) where
+module _ (st : Store) (index : List ℕ) where
   -- A condition is given no id and is lent no memo.
   abbrev pub Conditions : Type 0 → (Table → Table × ℕ) → Outcomes
-  Conditions kind want number id nodes′ children′ cuts′ index′ =
-      Makes (Allowed nodes children cuts index) (λ u. Unit {0}) kind want nodes children cuts index [] number id nodes′ children′ cuts′ index′ []
+  Conditions kind want number id st′ index′ =
+      Makes (Allowed st index) (λ u. Unit {0}) kind want st index [] number id st′ index′ []
 
   -- "A range by two bounds". Of kinds, "a range condition .. ask[s] a range variable".
   abbrev pub FromRange : ℕ → Bound → Bound → Outcomes
@@ -95,10 +95,10 @@ module _ (nodes children : List ℕ) (cuts : List ℤ) (index : List ℕ) where
   -- Conjunction, disjunction, restriction, narrowing and widening are lent a memo: three words for each node record.
   module _ (memo : List ℕ) where
     abbrev pub Lending : Type 0
-    Lending = Allowed nodes children cuts index × (length memo ≡ room nodes * 3)
+    Lending = Allowed st index × (length memo ≡ room (st .nodes) * 3)
 
     abbrev pub WithMemo : (ℕ → Type 0) → Type 0 → (Table → Table × ℕ) → MemoOutcomes
-    WithMemo known kind want number id nodes′ children′ cuts′ index′ memo′ = Makes Lending known kind want nodes children cuts index memo number id nodes′ children′ cuts′ index′ memo′
+    WithMemo known kind want number id st′ index′ memo′ = Makes Lending known kind want st index memo number id st′ index′ memo′
 
     -- Conjunction and disjunction are given two ids and no variable.
     abbrev pub Joins : (Table → ℕ → ℕ → Table × ℕ) → ℕ → ℕ → MemoOutcomes
@@ -131,7 +131,7 @@ module _ (nodes children : List ℕ) (cuts : List ℤ) (index : List ℕ) where
   -- "Disjointness and reading borrow no memo and change nothing": the number, and the answer. "A yes/no call returns no beside any refusal."
   module _ (x y : ℕ) where
     pub data Disjoints : ℕ → Bool → Type 0 where
-      disjoint-1 : (Allowed nodes children cuts index → ⊥) → Disjoints wrongRoom false
-      disjoint-2 : Allowed nodes children cuts index → Unsound nodes children cuts index → Disjoints notSound false
-      disjoint-3 : Allowed nodes children cuts index → (u : ℕ) → SoundLent nodes children cuts index u → (BothKnown x y u → ⊥) → Disjoints unknownId false
-      disjoint-0 : Allowed nodes children cuts index → (u : ℕ) → SoundLent nodes children cuts index u → BothKnown x y u → Disjoints done (is-disjoint (held nodes children cuts u) x y)
+      disjoint-1 : (Allowed st index → ⊥) → Disjoints wrongRoom false
+      disjoint-2 : Allowed st index → Unsound st index → Disjoints notSound false
+      disjoint-3 : Allowed st index → (u : ℕ) → SoundLent st index u → (BothKnown x y u → ⊥) → Disjoints unknownId false
+      disjoint-0 : Allowed st index → (u : ℕ) → SoundLent st index u → BothKnown x y u → Disjoints done (is-disjoint (held st u) x y)

@@ -4,11 +4,14 @@ ghost use Rattle.diagram.specs.Table.{firstBoolean, variables};
 ghost use Rattle.table.specs.Deciding.{Decides};
 ghost use Rattle.kernel.specs.Makes.{BothKnown};
 ghost use Rattle.kernel.specs.Admitting.{Admits, AdmitsIds};
+ghost use Rattle.table.specs.Layout.{store};
 use super::answers::WRONG_VARIABLE;
 use ids::NodeId;
 use making::nodes::Head;
 use table::calls::check;
 use table::limits::FIRST_BOOLEAN;
+use table::limits::MEMO_WORDS;
+use table::limits::RECORD_WORDS;
 use table::limits::VARIABLES;
 use table::told::DONE;
 use table::told::UNKNOWN_ID;
@@ -23,7 +26,7 @@ pub struct Admission {
 
 // Refusals 1, 2 and 4, for a call that asks a kind of variable: `kind` says whether the one it is given is of that kind.
 pub fn admit(nodes: &[u32], children: &[u32], cuts: &[i64], index: &[u32], kind: bool) -> Admission
-    ensures { λ r. ⌜ Admits (now (nodes .entry)) (now (children .entry)) (now (cuts .entry)) (now (index .entry)) kind (r .number) (r .head) ⌝ }
+    ensures { λ r. ⌜ Admits (store (now (nodes .entry)) (now (children .entry)) (now (cuts .entry))) (now (index .entry)) kind (r .number) (r .head) ⌝ }
 {
     let c = check(nodes, children, cuts, index);
     let head = Head {
@@ -57,9 +60,9 @@ pub fn admit_ids(
     y: NodeId,
     kind: bool,
 ) -> Admission
-    ensures { λ r. ⌜ AdmitsIds (now (nodes .entry)) (now (children .entry)) (now (cuts .entry)) (now (index .entry)) memo (x .0) (y .0) kind (r .number) (r .head) ⌝ }
+    ensures { λ r. ⌜ AdmitsIds (store (now (nodes .entry)) (now (children .entry)) (now (cuts .entry))) (now (index .entry)) memo (x .0) (y .0) kind (r .number) (r .head) ⌝ }
 {
-    if memo != nodes.len() / 4 * 3 {
+    if memo != nodes.len() / RECORD_WORDS * MEMO_WORDS {
         return Admission {
             number: WRONG_ROOM,
             head: Head { used: 0, edges: 0 },

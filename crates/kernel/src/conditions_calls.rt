@@ -1,6 +1,7 @@
 // Conditions. Document 01, step 3. Refusals 1, 2, 4 and 6; "a range condition .. ask[s] a range variable; a boolean condition asks a
 // boolean one".
 ghost use Rattle.kernel.specs.Makes.{FromRange, Compares, FromBool};
+ghost use Rattle.table.specs.Layout.{store};
 use super::admission::admit;
 use super::admission::is_boolean;
 use super::admission::is_range;
@@ -22,7 +23,7 @@ pub fn from_range(
     lower: Bound,
     upper: Bound,
 ) -> Answer
-    ensures { λ r. ⌜ FromRange (now (nodes .entry)) (now (children .entry)) (now (cuts .entry)) (now (index .entry)) v lower upper (r .number) (r .id .0) (now (nodes .exit)) (now (children .exit)) (now (cuts .exit)) (now (index .exit)) ⌝ }
+    ensures { λ r. ⌜ FromRange (store (now (nodes .entry)) (now (children .entry)) (now (cuts .entry))) (now (index .entry)) v lower upper (r .number) (r .id .0) (store (now (nodes .exit)) (now (children .exit)) (now (cuts .exit))) (now (index .exit)) ⌝ }
 {
     let a = admit(nodes, children, cuts, index, is_range(v));
     if a.number != DONE {
@@ -42,7 +43,7 @@ pub fn from_comparison(
     op: Comparison,
     key: i32,
 ) -> Answer
-    ensures { λ r. ⌜ Compares (now (nodes .entry)) (now (children .entry)) (now (cuts .entry)) (now (index .entry)) v op key (r .number) (r .id .0) (now (nodes .exit)) (now (children .exit)) (now (cuts .exit)) (now (index .exit)) ⌝ }
+    ensures { λ r. ⌜ Compares (store (now (nodes .entry)) (now (children .entry)) (now (cuts .entry))) (now (index .entry)) v op key (r .number) (r .id .0) (store (now (nodes .exit)) (now (children .exit)) (now (cuts .exit))) (now (index .exit)) ⌝ }
 {
     let a = admit(nodes, children, cuts, index, is_range(v));
     if a.number != DONE {
@@ -60,7 +61,7 @@ pub fn from_bool(
     index: &mut [u32],
     v: u32,
 ) -> Answer
-    ensures { λ r. ⌜ FromBool (now (nodes .entry)) (now (children .entry)) (now (cuts .entry)) (now (index .entry)) v (r .number) (r .id .0) (now (nodes .exit)) (now (children .exit)) (now (cuts .exit)) (now (index .exit)) ⌝ }
+    ensures { λ r. ⌜ FromBool (store (now (nodes .entry)) (now (children .entry)) (now (cuts .entry))) (now (index .entry)) v (r .number) (r .id .0) (store (now (nodes .exit)) (now (children .exit)) (now (cuts .exit))) (now (index .exit)) ⌝ }
 {
     let a = admit(nodes, children, cuts, index, is_boolean(v));
     if a.number != DONE {

@@ -1,5 +1,6 @@
 // Disjointness. Document 01, step 6. Refusals 1, 2 and 3.
 ghost use Rattle.kernel.specs.Makes.{Disjoints};
+ghost use Rattle.table.specs.Layout.{store};
 use super::admission::both_known;
 use ids::NodeId;
 use table::calls::check;
@@ -17,7 +18,7 @@ pub fn is_disjoint(
     x: NodeId,
     y: NodeId,
 ) -> Told
-    ensures { λ r. ⌜ Disjoints (now (nodes .entry)) (now (children .entry)) (now (cuts .entry)) (now (index .entry)) (x .0) (y .0) (r .number) (r .yes) ⌝ }
+    ensures { λ r. ⌜ Disjoints (store (now (nodes .entry)) (now (children .entry)) (now (cuts .entry))) (now (index .entry)) (x .0) (y .0) (r .number) (r .yes) ⌝ }
 {
     let c = check(nodes, children, cuts, index);
     if c.number != DONE {

@@ -14,7 +14,7 @@ use Rattle.diagram.specs.Cofactor.{map}
 use Rattle.diagram.specs.Room.{Fits}
 use Rattle.algebra.specs.Making.{find, intern, settle, firstSign}
 use Rattle.algebra.proofs.Making.{found}
-use Rattle.table.specs.Layout.{mostNodes, room}
+use Rattle.table.specs.Layout.{mostNodes, room, Store}
 use Rattle.table.proofs.Laws.{clash}
 use Rattle.table.proofs.Scan.{table-length}
 use Rattle.table.proofs.Promises.{counts-what-is-held}
@@ -44,32 +44,32 @@ id-under n zero h = omega arith
 id-under n (suc zero) h = omega arith
 id-under n (suc (suc s)) h = absurd (omega arith)
 
-module _ {h : Head} {nodes children : List ℕ} {cuts : List ℤ} {index : List ℕ} (l : Lent h nodes children cuts index) (v : ℕ) (es : built.Edges) where
+module _ {h : Head} {st : Store} {index : List ℕ} (l : Lent h st index) (v : ℕ) (es : built.Edges) where
   abbrev t : Table
-  t = tableOf h nodes children cuts
+  t = tableOf h st
 
   abbrev s : ℕ
   s = sign (childIn es 0)
 
   -- Refs are small.
   pub ref-small : (nd : Node) (at : ℕ) → at ≡ find t nd → at ≤ mostNodes
-  ref-small nd at e = omega (arith, found t nd .inside, table-length nodes children cuts (h .used), l .sound .fits, l .allowed .most-nodes)
+  ref-small nd at e = omega (arith, found t nd .inside, table-length st (h .used), l .sound .records .fits, l .allowed .most-nodes)
 
   -- What create_node promises.
-  abbrev pub Creates : Made → List ℕ → List ℕ → List ℤ → List ℕ → Type 0
-  Creates r nodes′ children′ cuts′ index′ = Outcome h (settle t v (piecesOf es)) r nodes children cuts nodes′ children′ cuts′ index′ × (r .ok ≡ false → Untouched nodes children cuts index nodes′ children′ cuts′ index′)
+  abbrev pub Creates : Made → Store → List ℕ → Type 0
+  Creates r st′ index′ = Outcome h (settle t v (piecesOf es)) r st st′ index′ × (r .ok ≡ false → Untouched st index st′ index′)
 
-  kept : (id : NodeId) → settle t v (piecesOf es) ≡ (t, id .0) → Creates (record { ok = true; id = id; head = h }) nodes children cuts index
+  kept : (id : NodeId) → settle t v (piecesOf es) ≡ (t, id .0) → Creates (record { ok = true; id = id; head = h }) st index
   kept id e = (record { lent = l; stays = stays-here; table = λ q. sym (ap (λ (x : Table × ℕ). x .0) e); id = λ q. sym (ap (λ (x : Table × ℕ). x .1) e); full = λ q. absurd (clash q refl) }, λ q. absurd (clash q refl))
 
-  pub dropped : es .len ≡ 1 → (id : NodeId) → id .0 ≡ childIn es 0 → Creates (record { ok = true; id = id; head = h }) nodes children cuts index
+  pub dropped : es .len ≡ 1 → (id : NodeId) → id .0 ≡ childIn es 0 → Creates (record { ok = true; id = id; head = h }) st index
   dropped one id e = kept id (settle-run t v (childIn es) (cutIn es) (es .len - 1) (omega arith) ∙ ap (λ (x : ℕ). (t, x)) (sym e))
 
   module _ (many : 2 ≤ es .len) where
     as-node : settle t v (piecesOf es) ≡ intern t (nodeOf v s es) s
     as-node = intern-run t v (childIn es) (cutIn es) (es .len - 1) (omega arith)
 
-    pub found-one : (at : ℕ) → 0 < at → at ≡ find t (nodeOf v s es) → (id : NodeId) → id .0 ≡ under s (at * 2) → Creates (record { ok = true; id = id; head = h }) nodes children cuts index
+    pub found-one : (at : ℕ) → 0 < at → at ≡ find t (nodeOf v s es) → (id : NodeId) → id .0 ≡ under s (at * 2) → Creates (record { ok = true; id = id; head = h }) st index
     found-one zero g e id q = absurd (omega arith)
     found-one (suc r) g e id q = kept id (as-node ∙ (intern-found t (nodeOf v s es) s r (sym e) ∙ ap (λ (x : ℕ). (t, x)) (sym (q ∙ id-under (suc r) s (omega arith)))))
 
@@ -77,22 +77,22 @@ module _ {h : Head} {nodes children : List ℕ} {cuts : List ℤ} {index : List 
       wanted : settle t v (piecesOf es) ≡ (nodeOf v s es ∷ t, 2 * suc (length t) + s)
       wanted = as-node ∙ intern-added t (nodeOf v s es) s absent
 
-      pub no-room : ((h .used < room nodes) × (h .edges + es .len ≤ length children) → ⊥) → (id : NodeId) → Creates (record { ok = false; id = id; head = h }) nodes children cuts index
+      pub no-room : ((h .used < room (st .nodes)) × (h .edges + es .len ≤ length (st .children)) → ⊥) → (id : NodeId) → Creates (record { ok = false; id = id; head = h }) st index
       no-room g id = (
         record {
           lent = l;
           stays = stays-here;
           table = λ q. absurd (clash refl q);
           id = λ q. absurd (clash refl q);
-          full = λ q f. g (over (subst (λ (x : Table × ℕ). Fits (room nodes) (length children) (x .0)) wanted f));
+          full = λ q f. g (over (subst (λ (x : Table × ℕ). Fits (room (st .nodes)) (length (st .children)) (x .0)) wanted f));
         },
         λ q. record { nodes-same = refl; children-same = refl; cuts-same = refl; index-same = refl },
       )
         where
-          over : Fits (room nodes) (length children) (nodeOf v s es ∷ t) → (h .used < room nodes) × (h .edges + es .len ≤ length children)
-          over f = (omega (arith, f .nodesFit, table-length nodes children cuts (h .used)), omega (arith, f .edgesFit, count-of-node v s es (omega arith), counts-what-is-held nodes children cuts index (h .used) (l .sound) .1, l .edges))
+          over : Fits (room (st .nodes)) (length (st .children)) (nodeOf v s es ∷ t) → (h .used < room (st .nodes)) × (h .edges + es .len ≤ length (st .children))
+          over f = (omega (arith, f .nodesFit, table-length st (h .used)), omega (arith, f .edgesFit, count-of-node v s es (omega arith), counts-what-is-held st index (h .used) (l .sound) .1, l .edges))
 
-      pub added-one : {h′ : Head} {nodes′ children′ : List ℕ} {cuts′ : List ℤ} {index′ : List ℕ} → Added h (nodeOf v s es) h′ nodes children cuts nodes′ children′ cuts′ index′ → (id : NodeId) → id .0 ≡ under s (h′ .used * 2) → Creates (record { ok = true; id = id; head = h′ }) nodes′ children′ cuts′ index′
+      pub added-one : {h′ : Head} {st′ : Store} {index′ : List ℕ} → Added h (nodeOf v s es) h′ st st′ index′ → (id : NodeId) → id .0 ≡ under s (h′ .used * 2) → Creates (record { ok = true; id = id; head = h′ }) st′ index′
       added-one {h′} a id q = (
         record {
           lent = a .lent;
@@ -105,4 +105,4 @@ module _ {h : Head} {nodes children : List ℕ} {cuts : List ℤ} {index : List 
       )
         where
           same-id : 2 * h′ .used + s ≡ 2 * suc (length t) + s
-          same-id = let b = a .used in let d = table-length nodes children cuts (h .used) in omega arith
+          same-id = let b = a .used in let d = table-length st (h .used) in omega arith

@@ -11,7 +11,7 @@ use Rattle.diagram.specs.Sound.{Sound}
 use Rattle.diagram.proofs.Facts.{distinct}
 use Rattle.algebra.specs.Making.{find}
 use Rattle.algebra.proofs.Making.{found}
-use Rattle.table.specs.Layout.{room}
+use Rattle.table.specs.Layout.{room, Store}
 use Rattle.table.specs.Indexed.{bucketAt}
 use Rattle.table.specs.Lent.{SoundLent}
 use Rattle.table.specs.Held.{nodeAt, held}
@@ -38,24 +38,24 @@ found-none t nd h = go (find t nd) refl
     go (suc r) q = absurd (h r (omega (arith, q, found t nd .inside)) (ap (at t) (sym q) ∙ found t nd .there (omega (arith, q))))
 
 -- and so does a lent table
-module _ (nodes children : List ℕ) (cuts : List ℤ) (u : ℕ) (nd : Node) where
-  pub found-record : (index : List ℕ) (n : ℕ) → SoundLent nodes children cuts index u → n < u → nodeAt nodes children cuts n ≡ nd → find (held nodes children cuts u) nd ≡ suc n
-  found-record index n z l e = found-at (held nodes children cuts u) nd n (ordered nodes children cuts index u z) (omega (arith, table-length nodes children cuts u)) (table-at nodes children cuts u n l ∙ e)
+module _ (st : Store) (u : ℕ) (nd : Node) where
+  pub found-record : (index : List ℕ) (n : ℕ) → SoundLent st index u → n < u → nodeAt st n ≡ nd → find (held st u) nd ≡ suc n
+  found-record index n z l e = found-at (held st u) nd n (ordered st index u z) (omega (arith, table-length st u)) (table-at st u n l ∙ e)
 
-  pub found-nothing : ((n : ℕ) → n < u → nodeAt nodes children cuts n ≡ nd → ⊥) → find (held nodes children cuts u) nd ≡ 0
-  found-nothing h = found-none (held nodes children cuts u) nd (λ n l e. let g : n < u = omega (arith, table-length nodes children cuts u) in h n g (sym (table-at nodes children cuts u n g) ∙ e))
+  pub found-nothing : ((n : ℕ) → n < u → nodeAt st n ≡ nd → ⊥) → find (held st u) nd ≡ 0
+  found-nothing h = found-none (held st u) nd (λ n l e. let g : n < u = omega (arith, table-length st u) in h n g (sym (table-at st u n g) ∙ e))
 
 -- How far a walk down the node's bucket has come: x is one more than a record of the bucket, or 0, and no record from x on matches.
-pub record Looked (nodes children : List ℕ) (cuts : List ℤ) (u v s : ℕ) (es : built.Edges) (bucket x : ℕ) : Type 0 where
+pub record Looked (st : Store) (u v s : ℕ) (es : built.Edges) (bucket x : ℕ) : Type 0 where
   pub within : x ≤ u
-  pub own : (m : ℕ) → x ≡ suc m → bucketAt nodes children cuts m ≡ bucket
-  pub rest : (k : ℕ) → x ≤ k → k < u → Matches nodes children cuts k v s es → ⊥
+  pub own : (m : ℕ) → x ≡ suc m → bucketAt st m ≡ bucket
+  pub rest : (k : ℕ) → x ≤ k → k < u → Matches st k v s es → ⊥
 
-module _ (nodes children : List ℕ) (cuts : List ℤ) (index : List ℕ) (u v s : ℕ) (es : built.Edges) (bucket : ℕ) (z : SoundLent nodes children cuts index u) (b : bucket ≡ hashIn v s es (es .len) * room nodes / 4294967296) where
+module _ (st : Store) (index : List ℕ) (u v s : ℕ) (es : built.Edges) (bucket : ℕ) (z : SoundLent st index u) (b : bucket ≡ hashIn v s es (es .len) * room (st .nodes) / 4294967296) where
   -- the walk begins at the bucket's word,
-  pub look-first : {x : ℕ} → bucket < room nodes → x ≡ getD index bucket 0 → Looked nodes children cuts u v s es bucket x
+  pub look-first : {x : ℕ} → bucket < room (st .nodes) → x ≡ getD index bucket 0 → Looked st u v s es bucket x
   look-first {x} h e =
-      let w = z .heads bucket h in
+      let w = z .indexed .heads bucket h in
       record {
         within = omega (arith, w .before, e);
         own = λ m q. w .own m (sym e ∙ q);
@@ -63,34 +63,34 @@ module _ (nodes children : List ℕ) (cuts : List ℤ) (index : List ℕ) (u v s
       }
 
   -- goes on where a record does not match, and comes down,
-  module _ {at x : ℕ} (p : 0 < at) (q : Looked nodes children cuts u v s es bucket at) (e : x ≡ getD index (room nodes + (at - 1)) 0) where
+  module _ {at x : ℕ} (p : 0 < at) (q : Looked st u v s es bucket at) (e : x ≡ getD index (room (st .nodes) + (at - 1)) 0) where
     inside : at - 1 < u
     inside = omega (arith, q .within)
 
     pub look-less : x < at
-    look-less = omega (arith, e, z .nexts (at - 1) inside .before)
+    look-less = omega (arith, e, z .indexed .nexts (at - 1) inside .before)
 
-    same-bucket : bucketAt nodes children cuts (at - 1) ≡ bucket
+    same-bucket : bucketAt st (at - 1) ≡ bucket
     same-bucket = q .own (at - 1) (omega arith)
 
-    pub look-next : (Matches nodes children cuts (at - 1) v s es → ⊥) → Looked nodes children cuts u v s es bucket x
-    look-next other = let w = z .nexts (at - 1) inside in record {
+    pub look-next : (Matches st (at - 1) v s es → ⊥) → Looked st u v s es bucket x
+    look-next other = let w = z .indexed .nexts (at - 1) inside in record {
       within = omega (arith, look-less, q .within);
       own = λ m g. w .own m (sym e ∙ g) ∙ same-bucket;
       rest = λ k l g m. go k l g m (order k (at - 1));
     }
       where
-        go : (k : ℕ) → x ≤ k → k < u → Matches nodes children cuts k v s es → Order k (at - 1) → ⊥
-        go k l g m (less h) = z .nexts (at - 1) inside .none k (omega (arith, e)) h (bucket-matches m ∙ sym b ∙ sym same-bucket)
-        go k l g m (equal h) = other (subst (λ (i : ℕ). Matches nodes children cuts i v s es) h m)
+        go : (k : ℕ) → x ≤ k → k < u → Matches st k v s es → Order k (at - 1) → ⊥
+        go k l g m (less h) = z .indexed .nexts (at - 1) inside .none k (omega (arith, e)) h (bucket-matches m ∙ sym b ∙ sym same-bucket)
+        go k l g m (equal h) = other (subst (λ (i : ℕ). Matches st i v s es) h m)
         go k l g m (more h) = q .rest k (omega arith) g m
 
   -- and ends at the record that matches, or at 0
-  module _ {at : ℕ} (two : 2 ≤ es .len) (red : Reduced 0 (topOf v) (piecesOf es)) (q : Looked nodes children cuts u v s es bucket at) where
-    pub look-found : 0 < at → Matches nodes children cuts (at - 1) v s es → at ≡ find (held nodes children cuts u) (nodeOf v s es)
+  module _ {at : ℕ} (two : 2 ≤ es .len) (red : Reduced 0 (topOf v) (piecesOf es)) (q : Looked st u v s es bucket at) where
+    pub look-found : 0 < at → Matches st (at - 1) v s es → at ≡ find (held st u) (nodeOf v s es)
     look-found p m =
         let a : at ≡ suc (at - 1) = omega arith in
-        a ∙ sym (found-record nodes children cuts u (nodeOf v s es) index (at - 1) z (omega (arith, q .within)) (matches-node two red m))
+        a ∙ sym (found-record st u (nodeOf v s es) index (at - 1) z (omega (arith, q .within)) (matches-node two red m))
 
-    pub look-none : at ≡ 0 → 0 ≡ find (held nodes children cuts u) (nodeOf v s es)
-    look-none e = sym (found-nothing nodes children cuts u (nodeOf v s es) (λ n l g. q .rest n (omega arith) l (node-matches (z .rules n l) (omega arith) g)))
+    pub look-none : at ≡ 0 → 0 ≡ find (held st u) (nodeOf v s es)
+    look-none e = sym (found-nothing st u (nodeOf v s es) (λ n l g. q .rest n (omega arith) l (node-matches (z .records .rules n l) (omega arith) g)))

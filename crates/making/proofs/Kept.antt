@@ -9,7 +9,7 @@ use lib.ListN.{length}
 use lib.IntN.{ℤ}
 use Rattle.diagram.specs.Sound.{Continues, same, more}
 use Rattle.diagram.specs.Table.{Table}
-use Rattle.table.specs.Layout.{Lengths}
+use Rattle.table.specs.Layout.{Lengths, Store}
 use Rattle.table.specs.Held.{nodeAt, held}
 use Rattle.table.proofs.Promises.{counts-what-is-held, fits-its-room}
 use Rattle.growth.proofs.Frames.{Agree, held-agrees}
@@ -21,11 +21,11 @@ pub allowed-same : {a b c d a′ b′ c′ d′ : ℕ} → Lengths a b c d → a
 allowed-same l p q r s = rw (p, q, r, s) l
 
 -- The used edges are within the room.
-pub edges-inside : {h : Head} {nodes children : List ℕ} {cuts : List ℤ} {index : List ℕ} → Lent h nodes children cuts index → h .edges ≤ length children
-edges-inside {h} {nodes} {children} {cuts} {index} l = omega (arith, fits-its-room nodes children cuts index (h .used) (l .sound) .edgesFit, counts-what-is-held nodes children cuts index (h .used) (l .sound) .1, l .edges)
+pub edges-inside : {h : Head} {st : Store} {index : List ℕ} → Lent h st index → h .edges ≤ length (st .children)
+edges-inside {h} {st} {index} l = omega (arith, fits-its-room st index (h .used) (l .sound) .edgesFit, counts-what-is-held st index (h .used) (l .sound) .1, l .edges)
 
-module _ {h : Head} {nodes children : List ℕ} {cuts : List ℤ} where
-  pub stays-here : Stays h nodes children cuts h nodes children cuts
+module _ {h : Head} {st : Store} where
+  pub stays-here : Stays h st h st
   stays-here = record {
     long = refl;
     wide = refl;
@@ -36,8 +36,8 @@ module _ {h : Head} {nodes children : List ℕ} {cuts : List ℤ} where
     cut = λ i l. refl;
   }
 
-module _ {h i j : Head} {nodes children : List ℕ} {cuts : List ℤ} {nodes′ children′ : List ℕ} {cuts′ : List ℤ} {nodes″ children″ : List ℕ} {cuts″ : List ℤ} where
-  pub stays-trans : Stays h nodes children cuts i nodes′ children′ cuts′ → Stays i nodes′ children′ cuts′ j nodes″ children″ cuts″ → Stays h nodes children cuts j nodes″ children″ cuts″
+module _ {h i j : Head} {st : Store} {st′ : Store} {st″ : Store} where
+  pub stays-trans : Stays h st i st′ → Stays i st′ j st″ → Stays h st j st″
   stays-trans a b = record {
     long = b .long ∙ a .long;
     wide = b .wide ∙ a .wide;
@@ -48,28 +48,28 @@ module _ {h i j : Head} {nodes children : List ℕ} {cuts : List ℤ} {nodes′ 
     cut = λ n l. b .cut n (omega (arith, a .edges-more)) ∙ a .cut n l;
   }
 
-longer : (nodes children : List ℕ) (cuts : List ℤ) (n m : ℕ) → n ≤ m → Continues (held nodes children cuts n) (held nodes children cuts m)
+longer : (st : Store) (n m : ℕ) → n ≤ m → Continues (held st n) (held st m)
 unfolding held
-longer nodes children cuts n zero k = let e : n ≡ 0 = omega arith in rw e same
-longer nodes children cuts n (suc m) k = ⊎-elim (λ e. rw e same) (λ g. more (nodeAt nodes children cuts m) (longer nodes children cuts n m (omega arith))) (eq-or-lt-of-le k)
+longer st n zero k = let e : n ≡ 0 = omega arith in rw e same
+longer st n (suc m) k = ⊎-elim (λ e. rw e same) (λ g. more (nodeAt st m) (longer st n m (omega arith))) (eq-or-lt-of-le k)
 
-module _ {h h′ : Head} {nodes children : List ℕ} {cuts : List ℤ} {index nodes′ children′ : List ℕ} {cuts′ : List ℤ} (l : Lent h nodes children cuts index) (s : Stays h nodes children cuts h′ nodes′ children′ cuts′) where
-  pub stays-agree : Agree (h .used) (h .edges) nodes children cuts nodes′ children′ cuts′
+module _ {h h′ : Head} {st : Store} {index : List ℕ} {st′ : Store} (l : Lent h st index) (s : Stays h st h′ st′) where
+  pub stays-agree : Agree (h .used) (h .edges) st st′
   stays-agree = record { word = s .word; child = s .child; cut = s .cut }
 
   -- The old nodes are still held,
-  pub held-still : held nodes′ children′ cuts′ (h .used) ≡ tableOf h nodes children cuts
-  held-still = held-agrees stays-agree (l .sound .rules) (omega (arith, l .edges)) (h .used) (omega arith)
+  pub held-still : held st′ (h .used) ≡ tableOf h st
+  held-still = held-agrees stays-agree (l .sound .records .rules) (omega (arith, l .edges)) (h .used) (omega arith)
 
   -- so the new table continues the old.
-  pub continued : Continues (tableOf h nodes children cuts) (tableOf h′ nodes′ children′ cuts′)
-  continued = subst (λ (t : Table). Continues t (tableOf h′ nodes′ children′ cuts′)) held-still (longer nodes′ children′ cuts′ (h .used) (h′ .used) (s .nodes-more))
+  pub continued : Continues (tableOf h st) (tableOf h′ st′)
+  continued = subst (λ (t : Table). Continues t (tableOf h′ st′)) held-still (longer st′ (h .used) (h′ .used) (s .nodes-more))
 
-module _ {u w : ℕ} {h i j : Head} {nodes children : List ℕ} {cuts : List ℤ} {nodes′ children′ : List ℕ} {cuts′ : List ℤ} {index′ nodes″ children″ : List ℕ} {cuts″ : List ℤ} {index″ : List ℕ} where
+module _ {u w : ℕ} {h i j : Head} {st : Store} {st′ : Store} {index′ : List ℕ} {st″ : Store} {index″ : List ℕ} where
   -- Taking back goes on where it stopped.
-  pub taken-on : TakenBack u h nodes children cuts i nodes′ children′ cuts′ index′ → TakenBack w i nodes′ children′ cuts′ j nodes″ children″ cuts″ index″ → TakenBack w h nodes children cuts j nodes″ children″ cuts″ index″
+  pub taken-on : TakenBack u h st i st′ index′ → TakenBack w i st′ j st″ index″ → TakenBack w h st j st″ index″
   taken-on a b = record { lent = b .lent; used-is = b .used-is; stays = stays-trans (b .stays) (a .stays) }
 
-module _ {u w : ℕ} {h j : Head} {nodes children : List ℕ} {cuts : List ℤ} {nodes′ children′ : List ℕ} {cuts′ : List ℤ} {index′ : List ℕ} where
-  pub taken-to : TakenBack u h nodes children cuts j nodes′ children′ cuts′ index′ → j .used ≡ w → TakenBack w h nodes children cuts j nodes′ children′ cuts′ index′
+module _ {u w : ℕ} {h j : Head} {st : Store} {st′ : Store} {index′ : List ℕ} where
+  pub taken-to : TakenBack u h st j st′ index′ → j .used ≡ w → TakenBack w h st j st′ index′
   taken-to a e = record { lent = a .lent; used-is = e; stays = a .stays }

@@ -9,13 +9,13 @@ use Rattle.ids.specs.Id.{under}
 use Rattle.diagram.specs.Pieces.{Pieces, last, cut, count, Reduced, run}
 use Rattle.diagram.specs.Table.{topOf, Node}
 use Rattle.diagram.proofs.Numbered.{count-run, run-shift, map-run}
-use Rattle.table.specs.Layout.{varAt, countAt, firstAt, kidAt, cutAt, room, start, level}
+use Rattle.table.specs.Layout.{varAt, countAt, firstAt, kidAt, cutAt, room, start, cutPosition, Store}
 use Rattle.table.specs.Indexed.{hashTo, bucketAt}
 use Rattle.table.specs.Lent.{Rules}
 use Rattle.table.specs.Held.{edgesFrom, nodeAt}
 use Rattle.table.proofs.Laws.{split, mixed}
 use Rattle.table.proofs.Bridge.{kid-of, cut-of, edges-run, range-edges, bool-edges}
-use Rattle.table.proofs.Determined.{count-node, kid-node, level-node, no-cut-last, no-cut-bool}
+use Rattle.table.proofs.Determined.{count-node, kid-node, cut-position-node, no-cut-last, no-cut-bool}
 use Rattle.making.specs.declared.edges.Edges as built
 use Rattle.making.specs.Building.{childIn, cutIn, piecesOf, nodeOf, keyIn, hashIn, Matches}
 use Rattle.making.proofs.Arrays.{kid-run, cut-run, bool-two, bool-cut}
@@ -44,40 +44,40 @@ unfolding run
 two-edges c k = refl
 
 -- a record that matches is the node
-module _ {nodes children : List ℕ} {cuts : List ℤ} {n v s : ℕ} {es : built.Edges} (two : 2 ≤ es .len) (red : Reduced 0 (topOf v) (piecesOf es)) (m : Matches nodes children cuts n v s es) where
-  range-same : v < 32 → nodeAt nodes children cuts n .edges ≡ nodeOf v s es .edges
+module _ {st : Store} {n v s : ℕ} {es : built.Edges} (two : 2 ≤ es .len) (red : Reduced 0 (topOf v) (piecesOf es)) (m : Matches st n v s es) where
+  range-same : v < 32 → nodeAt st n .edges ≡ nodeOf v s es .edges
   range-same h =
-      let e = firstAt nodes n in
-      let w : varAt nodes n < 32 = omega (arith, m .variable) in
-      let k : countAt nodes n - 1 ≡ es .len - 1 = ap (λ (i : ℕ). i - 1) (m .count) in
-      range-edges children cuts (varAt nodes n) e (countAt nodes n) w ∙ ap (edgesFrom children cuts e) k ∙ edges-run children cuts e (es .len - 1)
-      ∙ run-shift (λ j. kidAt children (e + j)) (λ j. under s (childIn es j)) (λ j. level (cutAt cuts (e + j))) (cutIn es) 0 0 (es .len - 1) (λ j l. m .child (0 + j) (omega arith)) (λ j l. m .cut (0 + j) (omega arith) ∙ key-own v (0 + j) es h (omega arith))
+      let e = firstAt (st .nodes) n in
+      let w : varAt (st .nodes) n < 32 = omega (arith, m .variable) in
+      let k : countAt (st .nodes) n - 1 ≡ es .len - 1 = ap (λ (i : ℕ). i - 1) (m .count) in
+      range-edges (st .children) (st .cuts) (varAt (st .nodes) n) e (countAt (st .nodes) n) w ∙ ap (edgesFrom (st .children) (st .cuts) e) k ∙ edges-run (st .children) (st .cuts) e (es .len - 1)
+      ∙ run-shift (λ j. kidAt (st .children) (e + j)) (λ j. under s (childIn es j)) (λ j. cutPosition (cutAt (st .cuts) (e + j))) (cutIn es) 0 0 (es .len - 1) (λ j l. m .child (0 + j) (omega arith)) (λ j l. m .cut (0 + j) (omega arith) ∙ key-own v (0 + j) es h (omega arith))
       ∙ sym (edges-of v s es)
 
-  bool-same : 32 ≤ v → nodeAt nodes children cuts n .edges ≡ nodeOf v s es .edges
+  bool-same : 32 ≤ v → nodeAt st n .edges ≡ nodeOf v s es .edges
   bool-same h =
-      let e = firstAt nodes n in
+      let e = firstAt (st .nodes) n in
       let z : e ≡ e + 0 = omega arith in
       let one : 1 ≡ es .len - 1 = omega (arith, bool-two v es red h two) in
-      let p = ap (kidAt children) z ∙ m .child 0 (omega arith) in
+      let p = ap (kidAt (st .children)) z ∙ m .child 0 (omega arith) in
       let q = sym (bool-cut v es red h two) in
       let r = m .child 1 (omega arith) in
-      bool-edges children cuts (varAt nodes n) e (countAt nodes n) (omega (arith, m .variable)) ∙ (λ i. cut (p i) (q i) (last (r i))) ∙ sym (two-edges (λ j. under s (childIn es j)) (cutIn es)) ∙ ap (run (λ j. under s (childIn es j)) (cutIn es) 0) one
+      bool-edges (st .children) (st .cuts) (varAt (st .nodes) n) e (countAt (st .nodes) n) (omega (arith, m .variable)) ∙ (λ i. cut (p i) (q i) (last (r i))) ∙ sym (two-edges (λ j. under s (childIn es j)) (cutIn es)) ∙ ap (run (λ j. under s (childIn es j)) (cutIn es) 0) one
       ∙ sym (edges-of v s es)
 
-  pub matches-node : nodeAt nodes children cuts n ≡ nodeOf v s es
+  pub matches-node : nodeAt st n ≡ nodeOf v s es
   matches-node =
       let p = m .variable in
       let q = ⊎-elim range-same bool-same (split v 32) in
       λ i. record { var = p i; edges = q i }
 
 -- and a record that is the node matches
-pub node-matches : {nodes children : List ℕ} {cuts : List ℤ} {n v s : ℕ} {es : built.Edges} → Rules nodes children cuts n → 1 ≤ es .len → nodeAt nodes children cuts n ≡ nodeOf v s es → Matches nodes children cuts n v s es
-node-matches {nodes} {children} {cuts} {n} {v} {s} {es} r some q = record {
+pub node-matches : {st : Store} {n v s : ℕ} {es : built.Edges} → Rules st n → 1 ≤ es .len → nodeAt st n ≡ nodeOf v s es → Matches st n v s es
+node-matches {st} {n} {v} {s} {es} r some q = record {
   variable = same-var;
   count = same-count;
-  child = λ j l. ap (λ (i : ℕ). kidAt children (i + j)) (r .packed) ∙ sym (kid-node nodes children cuts n r j (omega (arith, same-count))) ∙ ap (λ (e : Pieces ℕ). kid-of e j) edges ∙ kid-of-node v s es j l;
-  cut = λ j l. ap (λ (i : ℕ). level (cutAt cuts (i + j))) (r .packed) ∙ at-start j l (split v 32) (split (j + 1) (es .len));
+  child = λ j l. ap (λ (i : ℕ). kidAt (st .children) (i + j)) (r .packed) ∙ sym (kid-node st n r j (omega (arith, same-count))) ∙ ap (λ (e : Pieces ℕ). kid-of e j) edges ∙ kid-of-node v s es j l;
+  cut = λ j l. ap (λ (i : ℕ). cutPosition (cutAt (st .cuts) (i + j))) (r .packed) ∙ at-start j l (split v 32) (split (j + 1) (es .len));
 }
   where
     edges : nodeAt nodes children cuts n .edges ≡ nodeOf v s es .edges
@@ -89,28 +89,28 @@ node-matches {nodes} {children} {cuts} {n} {v} {s} {es} r some q = record {
     same-count : countAt nodes n ≡ es .len
     same-count = sym (count-node nodes children cuts n r) ∙ ap count edges ∙ count-of-node v s es some
 
-    at-start : (j : ℕ) → j < es .len → (v < 32) ⊎ (32 ≤ v) → (j + 1 < es .len) ⊎ (es .len ≤ j + 1) → level (cutAt cuts (start nodes n + j)) ≡ keyIn v es j
-    at-start j l (inl h) (inl g) = sym (level-node nodes children cuts n r j (omega (arith, same-var)) (omega (arith, same-count))) ∙ ap (λ (e : Pieces ℕ). cut-of e j) edges ∙ cut-of-node v s es j g ∙ sym (key-own v j es h g)
-    at-start j l (inl h) (inr g) = ap level (no-cut-last nodes children cuts n r j (omega (arith, same-var)) (omega (arith, same-count)) (omega (arith, same-count))) ∙ sym (key-last v j es h g)
-    at-start j l (inr h) g = ap level (no-cut-bool nodes children cuts n r j (omega (arith, same-var)) (omega (arith, same-count))) ∙ sym (key-bool v j es h)
+    at-start : (j : ℕ) → j < es .len → (v < 32) ⊎ (32 ≤ v) → (j + 1 < es .len) ⊎ (es .len ≤ j + 1) → cutPosition (cutAt cuts (start nodes n + j)) ≡ keyIn v es j
+    at-start j l (inl h) (inl g) = sym (cut-position-node nodes children cuts n r j (omega (arith, same-var)) (omega (arith, same-count))) ∙ ap (λ (e : Pieces ℕ). cut-of e j) edges ∙ cut-of-node v s es j g ∙ sym (key-own v j es h g)
+    at-start j l (inl h) (inr g) = ap cutPosition (no-cut-last nodes children cuts n r j (omega (arith, same-var)) (omega (arith, same-count)) (omega (arith, same-count))) ∙ sym (key-last v j es h g)
+    at-start j l (inr h) g = ap cutPosition (no-cut-bool nodes children cuts n r j (omega (arith, same-var)) (omega (arith, same-count))) ∙ sym (key-bool v j es h)
 
 -- the hash of a record that matches, and its bucket
-module _ {nodes children : List ℕ} {cuts : List ℤ} {n v s : ℕ} {es : built.Edges} (m : Matches nodes children cuts n v s es) where
-  hash-to : (j : ℕ) → j ≤ es .len → hashTo children cuts (varAt nodes n) (firstAt nodes n) j ≡ hashIn v s es j
+module _ {st : Store} {n v s : ℕ} {es : built.Edges} (m : Matches st n v s es) where
+  hash-to : (j : ℕ) → j ≤ es .len → hashTo (st .children) (st .cuts) (varAt (st .nodes) n) (firstAt (st .nodes) n) j ≡ hashIn v s es j
   unfolding hashTo hashIn
   hash-to zero h = let e = m .variable in omega arith
   hash-to (suc j) h = mixed (hash-to j (omega arith)) (m .child j (omega arith)) (m .cut j (omega arith))
 
-  pub hash-matches : hashTo children cuts (varAt nodes n) (firstAt nodes n) (countAt nodes n) ≡ hashIn v s es (es .len)
-  hash-matches = ap (hashTo children cuts (varAt nodes n) (firstAt nodes n)) (m .count) ∙ hash-to (es .len) (omega arith)
+  pub hash-matches : hashTo (st .children) (st .cuts) (varAt (st .nodes) n) (firstAt (st .nodes) n) (countAt (st .nodes) n) ≡ hashIn v s es (es .len)
+  hash-matches = ap (hashTo (st .children) (st .cuts) (varAt (st .nodes) n) (firstAt (st .nodes) n)) (m .count) ∙ hash-to (es .len) (omega arith)
 
-  pub bucket-matches : bucketAt nodes children cuts n ≡ hashIn v s es (es .len) * room nodes / 4294967296
+  pub bucket-matches : bucketAt st n ≡ hashIn v s es (es .len) * room (st .nodes) / 4294967296
   unfolding bucketAt
-  bucket-matches = ap (λ (h : ℕ). h * room nodes / 4294967296) hash-matches
+  bucket-matches = ap (λ (h : ℕ). h * room (st .nodes) / 4294967296) hash-matches
 
 -- edge j of a record, where its first edge is known by another name
 pub kid-at : (children : List ℕ) {a b : ℕ} (j : ℕ) → a ≡ b → kidAt children (a + j) ≡ kidAt children (b + j)
 kid-at children j e = ap (λ (i : ℕ). kidAt children (i + j)) e
 
-pub cut-at : (cuts : List ℤ) {a b : ℕ} (j : ℕ) → a ≡ b → level (cutAt cuts (a + j)) ≡ level (cutAt cuts (b + j))
-cut-at cuts j e = ap (λ (i : ℕ). level (cutAt cuts (i + j))) e
+pub cut-at : (cuts : List ℤ) {a b : ℕ} (j : ℕ) → a ≡ b → cutPosition (cutAt cuts (a + j)) ≡ cutPosition (cutAt cuts (b + j))
+cut-at cuts j e = ap (λ (i : ℕ). cutPosition (cutAt cuts (i + j))) e

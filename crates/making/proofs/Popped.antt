@@ -7,7 +7,7 @@ use native.Mathlib.Omega.{arith}
 use lib.ListN.{length, getD, set, length-set}
 use lib.Seq.{getD-set-same, getD-set-other}
 use lib.IntN.{ℤ}
-use Rattle.table.specs.Layout.{varAt, countAt, firstAt, kidAt, cutAt, room, start}
+use Rattle.table.specs.Layout.{varAt, countAt, firstAt, kidAt, cutAt, room, start, Store}
 use Rattle.table.specs.Indexed.{hashTo, bucketAt}
 use Rattle.table.specs.Lent.{Rules, SoundLent}
 use Rattle.table.proofs.Laws as laws
@@ -21,25 +21,25 @@ use Rattle.making.specs.Outcome.{Lent, TakenBack}
 use Rattle.making.proofs.Kept.{allowed-same}
 
 -- A bucket as the code computes it.
-pub bucket-is : (nodes children : List ℕ) (cuts : List ℤ) (u : ℕ) {v e n h b : ℕ} → v ≡ varAt nodes u → e ≡ firstAt nodes u → n ≡ countAt nodes u → h ≡ hashTo children cuts v e n → b ≡ h * room nodes / 4294967296 → b ≡ bucketAt nodes children cuts u
+pub bucket-is : (st : Store) (u : ℕ) {v e n h b : ℕ} → v ≡ varAt (st .nodes) u → e ≡ firstAt (st .nodes) u → n ≡ countAt (st .nodes) u → h ≡ hashTo (st .children) (st .cuts) v e n → b ≡ h * room (st .nodes) / 4294967296 → b ≡ bucketAt st u
 unfolding bucketAt
-bucket-is nodes children cuts u p q r s t = t ∙ ap (λ (h : ℕ). h * room nodes / 4294967296) (s ∙ rw (p, q, r))
+bucket-is st u p q r s t = t ∙ ap (λ (h : ℕ). h * room (st .nodes) / 4294967296) (s ∙ rw (p, q, r))
 
-module _ {h : Head} {nodes children : List ℕ} {cuts : List ℤ} {index : List ℕ} (l : Lent h nodes children cuts index) (u : ℕ) (last : h .used ≡ suc u) (b e n : ℕ) (bucket : b ≡ bucketAt nodes children cuts u) (small : b < room nodes)
-    (first : e ≡ firstAt nodes u) (count : n ≡ countAt nodes u) {nodes′ children′ : List ℕ} {cuts′ : List ℤ} (q : RecordPut nodes u 0 0 0 nodes′) (p : EdgesBlank children cuts e n children′ cuts′) where
+module _ {h : Head} {st : Store} {index : List ℕ} (l : Lent h st index) (u : ℕ) (last : h .used ≡ suc u) (b e n : ℕ) (bucket : b ≡ bucketAt st u) (small : b < room (st .nodes))
+    (first : e ≡ firstAt (st .nodes) u) (count : n ≡ countAt (st .nodes) u) {st′ : Store} (q : RecordPut (st .nodes) u 0 0 0 (st′ .nodes)) (p : EdgesBlank (st .children) (st .cuts) e n (st′ .children) (st′ .cuts)) where
   abbrev one : List ℕ
-  one = set index b (getD index (room nodes + u) 0)
+  one = set index b (getD index (room (st .nodes) + u) 0)
 
   abbrev index′ : List ℕ
-  index′ = set one (room nodes + u) 0
+  index′ = set one (room (st .nodes) + u) 0
 
-  sound : SoundLent nodes children cuts index (suc u)
-  sound = subst (SoundLent nodes children cuts index) last (l .sound)
+  sound : SoundLent st index (suc u)
+  sound = subst (SoundLent st index) last (l .sound)
 
-  rules : Rules nodes children cuts u
-  rules = sound .rules u (omega arith)
+  rules : Rules st u
+  rules = sound .records .rules u (omega arith)
 
-  words : MoreWords u e (countAt nodes u) nodes′ children′ cuts′ nodes children cuts
+  words : MoreWords u e (countAt (st .nodes) u) st′ st
   words = record {
     long = sym (q .long);
     wide = sym (p .wide);
@@ -47,44 +47,44 @@ module _ {h : Head} {nodes children : List ℕ} {cuts : List ℤ} {index : List 
     word = λ i g. sym (q .other i g);
     no-word = λ i g k. blank i (i - u * 4) (omega arith) (omega arith);
     child = λ i g. sym (p .child-other i (span i g));
-    no-child = λ i g k. let a : i ≡ e + (i - e) = omega arith in ap (kidAt children′) a ∙ p .child-is (i - e) (omega (arith, count));
+    no-child = λ i g k. let a : i ≡ e + (i - e) = omega arith in ap (kidAt (st′ .children)) a ∙ p .child-is (i - e) (omega (arith, count));
     cut = λ i g. sym (p .cut-other i (span i g));
-    no-cut = λ i g k. let a : i ≡ e + (i - e) = omega arith in ap (cutAt cuts′) a ∙ p .cut-is (i - e) (omega (arith, count));
+    no-cut = λ i g k. let a : i ≡ e + (i - e) = omega arith in ap (cutAt (st′ .cuts)) a ∙ p .cut-is (i - e) (omega (arith, count));
   }
     where
-      span : (i : ℕ) → (i < e) ⊎ (e + countAt nodes u ≤ i) → (i < e) ⊎ (e + n ≤ i)
+      span : (i : ℕ) → (i < e) ⊎ (e + countAt (st .nodes) u ≤ i) → (i < e) ⊎ (e + n ≤ i)
       span i (inl g) = inl g
       span i (inr g) = inr (omega (arith, count))
 
-      blank : (i k : ℕ) → i ≡ u * 4 + k → k < 4 → getD nodes′ i 0 ≡ 0
-      blank i zero x g = let a : i ≡ u * 4 = omega arith in laws.at nodes′ i (u * 4) a ∙ q .variable
-      blank i (suc zero) x g = laws.at nodes′ i (u * 4 + 1) x ∙ q .counts
-      blank i (suc (suc zero)) x g = laws.at nodes′ i (u * 4 + 2) x ∙ q .firsts
-      blank i (suc (suc (suc zero))) x g = laws.at nodes′ i (u * 4 + 3) x ∙ (q .spare ∙ rules .spare)
+      blank : (i k : ℕ) → i ≡ u * 4 + k → k < 4 → getD (st′ .nodes) i 0 ≡ 0
+      blank i zero x g = let a : i ≡ u * 4 = omega arith in laws.at (st′ .nodes) i (u * 4) a ∙ q .variable
+      blank i (suc zero) x g = laws.at (st′ .nodes) i (u * 4 + 1) x ∙ q .counts
+      blank i (suc (suc zero)) x g = laws.at (st′ .nodes) i (u * 4 + 2) x ∙ q .firsts
+      blank i (suc (suc (suc zero))) x g = laws.at (st′ .nodes) i (u * 4 + 3) x ∙ (q .spare ∙ rules .spare)
       blank i (suc (suc (suc (suc k)))) x g = absurd (omega arith)
 
   next : suc u ≡ u + 1
   next = omega arith
 
-  same-room : room nodes′ ≡ room nodes
+  same-room : room (st′ .nodes) ≡ room (st .nodes)
   same-room = ap (λ (x : ℕ). x / 4) (q .long)
 
-  within : room nodes + u < length index
-  within = omega (arith, l .allowed .indexed, sound .fits)
+  within : room (st .nodes) + u < length index
+  within = omega (arith, l .allowed .indexed, sound .records .fits)
 
-  indexed : MoreIndex (room nodes) u b index′ index
+  indexed : MoreIndex (room (st .nodes)) u b index′ index
   indexed = record {
     broad = sym (simp length-set refl);
-    head = last-one (bucketAt nodes children cuts) b (suc u) _ _ (sound .heads b small) (last-new (sym bucket));
-    next = sym (getD-set-other one (room nodes + u) b 0 0 (λ x. omega arith) ∙ getD-set-same index b _ 0 (omega (arith, within)));
-    no-next = getD-set-same one (room nodes + u) 0 0 (simp length-set within);
-    other = λ i x y. sym (getD-set-other one (room nodes + u) i 0 0 y ∙ getD-set-other index b i _ 0 x);
+    head = last-one (bucketAt st) b (suc u) _ _ (sound .indexed .heads b small) (last-new (sym bucket));
+    next = sym (getD-set-other one (room (st .nodes) + u) b 0 0 (λ x. omega arith) ∙ getD-set-same index b _ 0 (omega (arith, within)));
+    no-next = getD-set-same one (room (st .nodes) + u) 0 0 (simp length-set within);
+    other = λ i x y. sym (getD-set-other one (room (st .nodes) + u) i 0 0 y ∙ getD-set-other index b i _ 0 x);
   }
 
-  more : OneMore u e nodes′ children′ cuts′ index′ nodes children cuts index
-  more = record { words = words; indexed = subst (λ (r : ℕ). MoreIndex r u (bucketAt nodes children cuts u) index′ index) (sym same-room) (subst (λ (x : ℕ). MoreIndex (room nodes) u x index′ index) bucket indexed) }
+  more : OneMore u e st′ index′ st index
+  more = record { words = words; indexed = subst (λ (r : ℕ). MoreIndex r u (bucketAt st u) index′ index) (sym same-room) (subst (λ (x : ℕ). MoreIndex (room (st .nodes)) u x index′ index) bucket indexed) }
 
-  pub popped : TakenBack u h nodes children cuts (record { used = u; edges = e }) nodes′ children′ cuts′ index′
+  pub popped : TakenBack u h st (record { used = u; edges = e }) st′ index′
   popped = record {
     lent = record { allowed = allowed-same (l .allowed) (q .long) (p .wide) (p .deep) (simp length-set refl); sound = shrunk sound first more; edges = sym (start-shrunk sound first more) };
     used-is = refl;
@@ -92,7 +92,7 @@ module _ {h : Head} {nodes children : List ℕ} {cuts : List ℤ} {index : List 
       long = sym (q .long);
       wide = sym (p .wide);
       nodes-more = omega arith;
-      edges-more = omega (arith, l .edges, ap (start nodes) (last ∙ next), laws.start-next nodes u, first, rules .packed);
+      edges-more = omega (arith, l .edges, ap (start (st .nodes)) (last ∙ next), laws.start-next (st .nodes) u, first, rules .packed);
       word = λ i g. sym (q .other i (inl g));
       child = λ i g. sym (p .child-other i (inl g));
       cut = λ i g. sym (p .cut-other i (inl g));

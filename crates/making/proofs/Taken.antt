@@ -11,7 +11,7 @@ use lib.IntN.{ℤ, pos}
 use Rattle.ids.specs.declared.NodeId.{NodeId}
 use Rattle.diagram.specs.Table.{Table}
 use Rattle.diagram.specs.Room.{Fits}
-use Rattle.table.specs.Layout.{kidAt, cutAt, room, start, Lengths}
+use Rattle.table.specs.Layout.{kidAt, cutAt, room, start, Lengths, Store}
 use Rattle.table.specs.Lent.{SoundLent}
 use Rattle.table.specs.Told.{Allowed}
 use Rattle.table.proofs.Laws.{split, clash}
@@ -27,59 +27,59 @@ pub index-as-long : {n c k i n′ c′ k′ i′ : ℕ} → Lengths n c k i → 
 index-as-long a b e = b .indexed ∙ ap (λ (m : ℕ). m / 4 * 2) e ∙ sym (a .indexed)
 
 -- two sound tables of u records in equal rooms that agree in every used word are equal
-module _ (nodes children : List ℕ) (cuts : List ℤ) (index nodes″ children″ : List ℕ) (cuts″ : List ℤ) (index″ : List ℕ) (u : ℕ)
-    (s : SoundLent nodes children cuts index u) (s″ : SoundLent nodes″ children″ cuts″ index″ u) (long : length nodes″ ≡ length nodes) (word : (i : ℕ) → i < u * 4 → getD nodes″ i 0 ≡ getD nodes i 0) where
-  nodes-back : nodes″ ≡ nodes
-  nodes-back = ext-getD 0 nodes″ nodes long (λ i l. ⊎-elim (word i) (λ g. s″ .no-node i g ∙ sym (s .no-node i g)) (split i (u * 4)))
+module _ (st : Store) (index : List ℕ) (st″ : Store) (index″ : List ℕ) (u : ℕ)
+    (s : SoundLent st index u) (s″ : SoundLent st″ index″ u) (long : length (st″ .nodes) ≡ length (st .nodes)) (word : (i : ℕ) → i < u * 4 → getD (st″ .nodes) i 0 ≡ getD (st .nodes) i 0) where
+  nodes-back : (st″ .nodes) ≡ (st .nodes)
+  nodes-back = ext-getD 0 (st″ .nodes) (st .nodes) long (λ i l. ⊎-elim (word i) (λ g. s″ .records .no-node i g ∙ sym (s .records .no-node i g)) (split i (u * 4)))
 
   -- so the second's edges end where the first's do
-  unused : (i : ℕ) → start nodes u ≤ i → start nodes″ u ≤ i
+  unused : (i : ℕ) → start (st .nodes) u ≤ i → start (st″ .nodes) u ≤ i
   unused i g = subst (λ (n : List ℕ). start n u ≤ i) (sym nodes-back) g
 
-  module _ (wide : length children″ ≡ length children) (deep : length cuts″ ≡ length cuts) (indexed : length index″ ≡ length index)
-      (child : (i : ℕ) → i < start nodes u → kidAt children″ i ≡ kidAt children i) (cut : (i : ℕ) → i < start nodes u → cutAt cuts″ i ≡ cutAt cuts i) where
-    children-back : children″ ≡ children
-    children-back = ext-getD 0 children″ children wide (λ i l. ⊎-elim (child i) (λ g. s″ .no-child i (unused i g) ∙ sym (s .no-child i g)) (split i (start nodes u)))
+  module _ (wide : length (st″ .children) ≡ length (st .children)) (deep : length (st″ .cuts) ≡ length (st .cuts)) (indexed : length index″ ≡ length index)
+      (child : (i : ℕ) → i < start (st .nodes) u → kidAt (st″ .children) i ≡ kidAt (st .children) i) (cut : (i : ℕ) → i < start (st .nodes) u → cutAt (st″ .cuts) i ≡ cutAt (st .cuts) i) where
+    children-back : (st″ .children) ≡ (st .children)
+    children-back = ext-getD 0 (st″ .children) (st .children) wide (λ i l. ⊎-elim (child i) (λ g. s″ .records .no-child i (unused i g) ∙ sym (s .records .no-child i g)) (split i (start (st .nodes) u)))
 
-    cuts-back : cuts″ ≡ cuts
-    cuts-back = ext-getD (pos 0) cuts″ cuts deep (λ i l. ⊎-elim (cut i) (λ g. s″ .no-cut i (unused i g) ∙ sym (s .no-cut i g)) (split i (start nodes u)))
+    cuts-back : (st″ .cuts) ≡ (st .cuts)
+    cuts-back = ext-getD (pos 0) (st″ .cuts) (st .cuts) deep (λ i l. ⊎-elim (cut i) (λ g. s″ .records .no-cut i (unused i g) ∙ sym (s .records .no-cut i g)) (split i (start (st .nodes) u)))
 
     index-back : index″ ≡ index
-    index-back = same-index nodes children cuts index″ index u (rw (sym nodes-back, sym children-back, sym cuts-back) s″) s indexed
+    index-back = same-index st index″ index u (rw (sym nodes-back, sym children-back, sym cuts-back) s″) s indexed
 
-    pub taken-back-same : (nodes″ ≡ nodes) × (children″ ≡ children) × (cuts″ ≡ cuts) × (index″ ≡ index)
+    pub taken-back-same : ((st″ .nodes) ≡ (st .nodes)) × ((st″ .children) ≡ (st .children)) × ((st″ .cuts) ≡ (st .cuts)) × (index″ ≡ index)
     taken-back-same = (nodes-back, children-back, cuts-back, index-back)
 
 -- the same by way of the table between them, which keeps the used words of both: as what a call made, and the taking back, say it
-pub undone-same : (nodes children : List ℕ) (cuts : List ℤ) (index nodes′ children′ : List ℕ) (cuts′ : List ℤ) (nodes″ children″ : List ℕ) (cuts″ : List ℤ) (index″ : List ℕ) (u e u″ e″ : ℕ) → u″ ≡ u
-    → Allowed nodes children cuts index → SoundLent nodes children cuts index u → e ≡ start nodes u
-    → length nodes′ ≡ length nodes → length children′ ≡ length children
-    → ((i : ℕ) → i < u * 4 → getD nodes′ i 0 ≡ getD nodes i 0) → ((i : ℕ) → i < e → kidAt children′ i ≡ kidAt children i) → ((i : ℕ) → i < e → cutAt cuts′ i ≡ cutAt cuts i)
-    → Allowed nodes″ children″ cuts″ index″ → SoundLent nodes″ children″ cuts″ index″ u″ → e″ ≡ start nodes″ u″
-    → length nodes′ ≡ length nodes″ → length children′ ≡ length children″
-    → ((i : ℕ) → i < u″ * 4 → getD nodes′ i 0 ≡ getD nodes″ i 0) → ((i : ℕ) → i < e″ → kidAt children′ i ≡ kidAt children″ i) → ((i : ℕ) → i < e″ → cutAt cuts′ i ≡ cutAt cuts″ i)
-    → (nodes″ ≡ nodes) × (children″ ≡ children) × (cuts″ ≡ cuts) × (index″ ≡ index)
-undone-same nodes children cuts index nodes′ children′ cuts′ nodes″ children″ cuts″ index″ u e u″ e″ same a s p l w f g h a″ s″ p″ l″ w″ f″ g″ h″ =
-    let t : SoundLent nodes″ children″ cuts″ index″ u = subst (SoundLent nodes″ children″ cuts″ index″) same s″ in
-    let long : length nodes″ ≡ length nodes = sym l″ ∙ l in
-    let wide : length children″ ≡ length children = sym w″ ∙ w in
-    let word : (i : ℕ) → i < u * 4 → getD nodes″ i 0 ≡ getD nodes i 0 = λ i b. sym (f″ i (omega arith)) ∙ f i b in
-    let q : start nodes″ u ≡ start nodes u = ap (λ (n : List ℕ). start n u) (nodes-back nodes children cuts index nodes″ children″ cuts″ index″ u s t long word) in
-    let r : e″ ≡ e = p″ ∙ ap (start nodes″) same ∙ q ∙ sym p in
-    taken-back-same nodes children cuts index nodes″ children″ cuts″ index″ u s t long word wide (cuts-as-long a a″ wide) (index-as-long a a″ long)
+pub undone-same : (st : Store) (index : List ℕ) (st′ : Store) (st″ : Store) (index″ : List ℕ) (u e u″ e″ : ℕ) → u″ ≡ u
+    → Allowed st index → SoundLent st index u → e ≡ start (st .nodes) u
+    → length (st′ .nodes) ≡ length (st .nodes) → length (st′ .children) ≡ length (st .children)
+    → ((i : ℕ) → i < u * 4 → getD (st′ .nodes) i 0 ≡ getD (st .nodes) i 0) → ((i : ℕ) → i < e → kidAt (st′ .children) i ≡ kidAt (st .children) i) → ((i : ℕ) → i < e → cutAt (st′ .cuts) i ≡ cutAt (st .cuts) i)
+    → Allowed st″ index″ → SoundLent st″ index″ u″ → e″ ≡ start (st″ .nodes) u″
+    → length (st′ .nodes) ≡ length (st″ .nodes) → length (st′ .children) ≡ length (st″ .children)
+    → ((i : ℕ) → i < u″ * 4 → getD (st′ .nodes) i 0 ≡ getD (st″ .nodes) i 0) → ((i : ℕ) → i < e″ → kidAt (st′ .children) i ≡ kidAt (st″ .children) i) → ((i : ℕ) → i < e″ → cutAt (st′ .cuts) i ≡ cutAt (st″ .cuts) i)
+    → ((st″ .nodes) ≡ (st .nodes)) × ((st″ .children) ≡ (st .children)) × ((st″ .cuts) ≡ (st .cuts)) × (index″ ≡ index)
+undone-same st index st′ st″ index″ u e u″ e″ same a s p l w f g h a″ s″ p″ l″ w″ f″ g″ h″ =
+    let t : SoundLent st″ index″ u = subst (SoundLent st″ index″) same s″ in
+    let long : length (st″ .nodes) ≡ length (st .nodes) = sym l″ ∙ l in
+    let wide : length (st″ .children) ≡ length (st .children) = sym w″ ∙ w in
+    let word : (i : ℕ) → i < u * 4 → getD (st″ .nodes) i 0 ≡ getD (st .nodes) i 0 = λ i b. sym (f″ i (omega arith)) ∙ f i b in
+    let q : start (st″ .nodes) u ≡ start (st .nodes) u = ap (λ (n : List ℕ). start n u) (nodes-back st index st″ index″ u s t long word) in
+    let r : e″ ≡ e = p″ ∙ ap (start (st″ .nodes)) same ∙ q ∙ sym p in
+    taken-back-same st index st″ index″ u s t long word wide (cuts-as-long a a″ wide) (index-as-long a a″ long)
     (λ i b. sym (g″ i (omega arith)) ∙ g i (omega arith)) (λ i b. sym (h″ i (omega arith)) ∙ h i (omega arith))
 
 -- Taken back to where it began, a table is as it was, word for word.
-module _ {h h′ h″ : Head} {nodes children : List ℕ} {cuts : List ℤ} {index nodes′ children′ : List ℕ} {cuts′ : List ℤ} {nodes″ children″ : List ℕ} {cuts″ : List ℤ} {index″ : List ℕ} (l : Lent h nodes children cuts index)
-    (s : Stays h nodes children cuts h′ nodes′ children′ cuts′) (b : TakenBack (h .used) h′ nodes′ children′ cuts′ h″ nodes″ children″ cuts″ index″) where
-  pub untouched : Untouched nodes children cuts index nodes″ children″ cuts″ index″
+module _ {h h′ h″ : Head} {st : Store} {index : List ℕ} {st′ : Store} {st″ : Store} {index″ : List ℕ} (l : Lent h st index)
+    (s : Stays h st h′ st′) (b : TakenBack (h .used) h′ st′ h″ st″ index″) where
+  pub untouched : Untouched st index st″ index″
   untouched =
-      let x = undone-same nodes children cuts index nodes′ children′ cuts′ nodes″ children″ cuts″ index″ (h .used) (h .edges) (h″ .used) (h″ .edges) (b .used-is) (l .allowed) (l .sound) (l .edges) (s .long) (s .wide) (s .word) (s .child) (s .cut)
+      let x = undone-same st index st′ st″ index″ (h .used) (h .edges) (h″ .used) (h″ .edges) (b .used-is) (l .allowed) (l .sound) (l .edges) (s .long) (s .wide) (s .word) (s .child) (s .cut)
       (b .lent .allowed) (b .lent .sound) (b .lent .edges) (b .stays .long) (b .stays .wide) (b .stays .word) (b .stays .child) (b .stays .cut) in
       record { nodes-same = x .0; children-same = x .1; cuts-same = x .2; index-same = x .3 }
 
   -- So it is the outcome of an operation that found no room.
-  pub taken-outcome : {want : Table × ℕ} (id : NodeId) → (Fits (room nodes) (length children) (want .0) → ⊥) → Outcome h want (record { ok = false; id = id; head = h″ }) nodes children cuts nodes″ children″ cuts″ index″
+  pub taken-outcome : {want : Table × ℕ} (id : NodeId) → (Fits (room (st .nodes)) (length (st .children)) (want .0) → ⊥) → Outcome h want (record { ok = false; id = id; head = h″ }) st st″ index″
   taken-outcome id f =
       let u = untouched in
       record {

@@ -11,7 +11,7 @@ use Rattle.diagram.specs.Pieces.{Pieces, run}
 use Rattle.diagram.specs.Table.{isRange, Node}
 use Rattle.diagram.specs.Cofactor.{map}
 use Rattle.diagram.specs.Room.{mostEdges}
-use Rattle.table.specs.Layout.{varAt, countAt, firstAt, kidAt, cutAt, level}
+use Rattle.table.specs.Layout.{varAt, countAt, firstAt, kidAt, cutAt, cutPosition, Store}
 use Rattle.table.specs.Indexed.{mix}
 use Rattle.making.specs.declared.edges.Edge.{Edge}
 use Rattle.making.specs.declared.edges.Edges as built
@@ -53,8 +53,8 @@ hashIn v s es zero = v % 2 ^ 32
 hashIn v s es (suc j) = mix (hashIn v s es j) (under s (childIn es j)) (keyIn v es j)
 
 -- Record n is this node.
-pub record Matches (nodes children : List ℕ) (cuts : List ℤ) (n v s : ℕ) (es : built.Edges) : Type 0 where
-  pub variable : varAt nodes n ≡ v
-  pub count : countAt nodes n ≡ es .len
-  pub child : (j : ℕ) → j < es .len → kidAt children (firstAt nodes n + j) ≡ under s (childIn es j)
-  pub cut : (j : ℕ) → j < es .len → level (cutAt cuts (firstAt nodes n + j)) ≡ keyIn v es j
+pub record Matches (st : Store) (n v s : ℕ) (es : built.Edges) : Type 0 where
+  pub variable : varAt (st .nodes) n ≡ v
+  pub count : countAt (st .nodes) n ≡ es .len
+  pub child : (j : ℕ) → j < es .len → kidAt (st .children) (firstAt (st .nodes) n + j) ≡ under s (childIn es j)
+  pub cut : (j : ℕ) → j < es .len → cutPosition (cutAt (st .cuts) (firstAt (st .nodes) n + j)) ≡ keyIn v es j

@@ -9,7 +9,7 @@ use Rattle.diagram.specs.Pieces.{Each, Reduced}
 use Rattle.diagram.specs.Table.{variables, topOf, Node, Table}
 use Rattle.diagram.specs.Sound.{Child}
 use Rattle.diagram.specs.Room.{Fits}
-use Rattle.table.specs.Layout.{kidAt, cutAt, room, start}
+use Rattle.table.specs.Layout.{kidAt, cutAt, room, start, Store}
 use Rattle.table.specs.Lent.{SoundLent}
 use Rattle.table.specs.Held.{held}
 use Rattle.table.specs.Told.{Allowed}
@@ -19,39 +19,39 @@ use Rattle.making.specs.declared.nodes.Made.{Made}
 use Rattle.making.specs.Building.{Building, piecesOf}
 
 -- A sound lent table, and how much of it is used.
-pub record Lent (h : Head) (nodes children : List ℕ) (cuts : List ℤ) (index : List ℕ) : Type 0 where
-  pub allowed : Allowed nodes children cuts index
-  pub sound : SoundLent nodes children cuts index (h .used)
-  pub edges : h .edges ≡ start nodes (h .used)
+pub record Lent (h : Head) (st : Store) (index : List ℕ) : Type 0 where
+  pub allowed : Allowed st index
+  pub sound : SoundLent st index (h .used)
+  pub edges : h .edges ≡ start (st .nodes) (h .used)
 
 -- What it holds.
-abbrev pub tableOf : Head → List ℕ → List ℕ → List ℤ → Table
-tableOf h nodes children cuts = held nodes children cuts (h .used)
+abbrev pub tableOf : Head → Store → Table
+tableOf h st = held st (h .used)
 
 -- The words that the first head calls used stay, and no less is used after it.
-pub record Stays (h : Head) (nodes children : List ℕ) (cuts : List ℤ) (h′ : Head) (nodes′ children′ : List ℕ) (cuts′ : List ℤ) : Type 0 where
-  pub long : length nodes′ ≡ length nodes
-  pub wide : length children′ ≡ length children
+pub record Stays (h : Head) (st : Store) (h′ : Head) (st′ : Store) : Type 0 where
+  pub long : length (st′ .nodes) ≡ length (st .nodes)
+  pub wide : length (st′ .children) ≡ length (st .children)
   pub nodes-more : h .used ≤ h′ .used
   pub edges-more : h .edges ≤ h′ .edges
-  pub word : (i : ℕ) → i < h .used * 4 → getD nodes′ i 0 ≡ getD nodes i 0
-  pub child : (i : ℕ) → i < h .edges → kidAt children′ i ≡ kidAt children i
-  pub cut : (i : ℕ) → i < h .edges → cutAt cuts′ i ≡ cutAt cuts i
+  pub word : (i : ℕ) → i < h .used * 4 → getD (st′ .nodes) i 0 ≡ getD (st .nodes) i 0
+  pub child : (i : ℕ) → i < h .edges → kidAt (st′ .children) i ≡ kidAt (st .children) i
+  pub cut : (i : ℕ) → i < h .edges → cutAt (st′ .cuts) i ≡ cutAt (st .cuts) i
 
 -- Every making function leaves a sound table that continues the one it found. Done, the table and the id are those that the
 -- mathematics wants; else what it wants has no room.
-pub record Outcome (h : Head) (want : Table × ℕ) (r : Made) (nodes children : List ℕ) (cuts : List ℤ) (nodes′ children′ : List ℕ) (cuts′ : List ℤ) (index′ : List ℕ) : Type 0 where
-  pub lent : Lent (r .head) nodes′ children′ cuts′ index′
-  pub stays : Stays h nodes children cuts (r .head) nodes′ children′ cuts′
-  pub table : r .ok ≡ true → tableOf (r .head) nodes′ children′ cuts′ ≡ want .0
+pub record Outcome (h : Head) (want : Table × ℕ) (r : Made) (st : Store) (st′ : Store) (index′ : List ℕ) : Type 0 where
+  pub lent : Lent (r .head) st′ index′
+  pub stays : Stays h st (r .head) st′
+  pub table : r .ok ≡ true → tableOf (r .head) st′ ≡ want .0
   pub id : r .ok ≡ true → r .id .0 ≡ want .1
-  pub full : r .ok ≡ false → Fits (room nodes) (length children) (want .0) → ⊥
+  pub full : r .ok ≡ false → Fits (room (st .nodes)) (length (st .children)) (want .0) → ⊥
 
 -- Every word is as it was.
-pub record Untouched (nodes children : List ℕ) (cuts : List ℤ) (index nodes′ children′ : List ℕ) (cuts′ : List ℤ) (index′ : List ℕ) : Type 0 where
-  pub nodes-same : nodes′ ≡ nodes
-  pub children-same : children′ ≡ children
-  pub cuts-same : cuts′ ≡ cuts
+pub record Untouched (st : Store) (index : List ℕ) (st′ : Store) (index′ : List ℕ) : Type 0 where
+  pub nodes-same : (st′ .nodes) ≡ (st .nodes)
+  pub children-same : (st′ .children) ≡ (st .children)
+  pub cuts-same : (st′ .cuts) ≡ (st .cuts)
   pub index-same : index′ ≡ index
 
 -- Edges from which a node of variable v can be made in the table t: merged, rising, and their children later than v.
@@ -62,14 +62,14 @@ pub record Buildable (t : Table) (v : ℕ) (es : built.Edges) : Type 0 where
   pub kids : Each (Child t (suc v)) (piecesOf es)
 
 -- One node more.
-pub record Added (h : Head) (nd : Node) (h′ : Head) (nodes children : List ℕ) (cuts : List ℤ) (nodes′ children′ : List ℕ) (cuts′ : List ℤ) (index′ : List ℕ) : Type 0 where
-  pub lent : Lent h′ nodes′ children′ cuts′ index′
-  pub stays : Stays h nodes children cuts h′ nodes′ children′ cuts′
+pub record Added (h : Head) (nd : Node) (h′ : Head) (st : Store) (st′ : Store) (index′ : List ℕ) : Type 0 where
+  pub lent : Lent h′ st′ index′
+  pub stays : Stays h st h′ st′
   pub used : h′ .used ≡ suc (h .used)
-  pub table : tableOf h′ nodes′ children′ cuts′ ≡ nd ∷ tableOf h nodes children cuts
+  pub table : tableOf h′ st′ ≡ nd ∷ tableOf h st
 
 -- Nodes taken back, down to `used` of them: what is left of the table is as it was before they came.
-pub record TakenBack (used : ℕ) (h : Head) (nodes children : List ℕ) (cuts : List ℤ) (h′ : Head) (nodes′ children′ : List ℕ) (cuts′ : List ℤ) (index′ : List ℕ) : Type 0 where
-  pub lent : Lent h′ nodes′ children′ cuts′ index′
+pub record TakenBack (used : ℕ) (h : Head) (st : Store) (h′ : Head) (st′ : Store) (index′ : List ℕ) : Type 0 where
+  pub lent : Lent h′ st′ index′
   pub used-is : h′ .used ≡ used
-  pub stays : Stays h′ nodes′ children′ cuts′ h nodes children cuts
+  pub stays : Stays h′ st′ h st

@@ -10,7 +10,7 @@ ghost use Rattle.diagram.specs.Sound.{Child};
 ghost use Rattle.diagram.specs.Room.{mostEdges};
 ghost use Rattle.algebra.specs.Making.{find as found, settle, create-node};
 ghost use Rattle.table.specs.Deciding.{Decides};
-ghost use Rattle.table.specs.Layout.{mostNodes, mostEdgeRoom, room};
+ghost use Rattle.table.specs.Layout.{mostNodes, mostEdgeRoom, room, store};
 ghost use Rattle.table.specs.Lent.{Rules};
 ghost use Rattle.making.specs.Building.{Building, Matches, childIn, cutIn, nodeOf, hashIn, piecesOf};
 ghost use Rattle.making.specs.Storing.{EdgesPut, RecordPut};
@@ -22,10 +22,11 @@ use super::edges::pair_of;
 use super::edges::stored_cut;
 use ids::NodeId;
 use table::index::scaled;
+use table::limits::RECORD_WORDS;
 use table::words::child_at;
 use table::words::count_of;
+use table::words::cut_position_at;
 use table::words::first_of;
-use table::words::level_at;
 use table::words::var_of;
 use table::words::wide;
 use table::words::word;
@@ -53,8 +54,8 @@ fn same_node(
     lead: NodeId,
     es: Edges,
 ) -> bool
-    requires { ⌜ (n * 4 + 4 ≤ length (now nodes)) × (length (now cuts) ≡ length (now children)) × (Rules (now nodes) (now children) (now cuts) n) × (Building es) ⌝ }
-    ensures { λ r. ⌜ Decides (Matches (now (nodes .entry)) (now (children .entry)) (now (cuts .entry)) n v (sign (lead .0)) es) r ⌝ }
+    requires { ⌜ (n * 4 + 4 ≤ length (now nodes)) × (length (now cuts) ≡ length (now children)) × (Rules (store (now nodes) (now children) (now cuts)) n) × (Building es) ⌝ }
+    ensures { λ r. ⌜ Decides (Matches (store (now (nodes .entry)) (now (children .entry)) (now (cuts .entry))) n v (sign (lead .0)) es) r ⌝ }
 {
     let count = es.len;
     if var_of(nodes, n) != v {
@@ -71,7 +72,7 @@ fn same_node(
         if child_at(children, first + j) != wide(c.0) {
             return false;
         }
-        if level_at(cuts, first + j) != key_of(v, j, count, e.cut) {
+        if cut_position_at(cuts, first + j) != key_of(v, j, count, e.cut) {
             return false;
         }
         j += 1;
@@ -91,10 +92,10 @@ fn find(
     es: Edges,
     bucket: usize,
 ) -> usize
-    requires { ⌜ (Lent head (now nodes) (now children) (now cuts) (now index)) × (Buildable (tableOf head (now nodes) (now children) (now cuts)) v es) × (2 ≤ es .len) × (bucket ≡ hashIn v (sign (lead .0)) es (es .len) * room (now nodes) / 4294967296) × (bucket < room (now nodes)) ⌝ }
-    ensures { λ r. ⌜ r ≡ found (tableOf head (now (nodes .entry)) (now (children .entry)) (now (cuts .entry))) (nodeOf v (sign (lead .0)) es) ⌝ }
+    requires { ⌜ (Lent head (store (now nodes) (now children) (now cuts)) (now index)) × (Buildable (tableOf head (store (now nodes) (now children) (now cuts))) v es) × (2 ≤ es .len) × (bucket ≡ hashIn v (sign (lead .0)) es (es .len) * room (now nodes) / 4294967296) × (bucket < room (now nodes)) ⌝ }
+    ensures { λ r. ⌜ r ≡ found (tableOf head (store (now (nodes .entry)) (now (children .entry)) (now (cuts .entry)))) (nodeOf v (sign (lead .0)) es) ⌝ }
 {
-    let rooms = nodes.len() / 4;
+    let rooms = nodes.len() / RECORD_WORDS;
     let mut at = word(index, bucket);
     while 0 < at {
         if same_node(nodes, children, cuts, at - 1, v, lead, es) {
@@ -127,9 +128,9 @@ pub fn put_record(nodes: &mut [u32], n: usize, v: u32, count: u32, first: u32)
     requires { ⌜ n * 4 + 4 ≤ length (now nodes) ⌝ }
     ensures { λ _. ⌜ RecordPut (now (nodes .entry)) n v count first (now (nodes .exit)) ⌝ }
 {
-    nodes[n * 4] = v;
-    nodes[n * 4 + 1] = count;
-    nodes[n * 4 + 2] = first;
+    nodes[n * RECORD_WORDS] = v;
+    nodes[n * RECORD_WORDS + 1] = count;
+    nodes[n * RECORD_WORDS + 2] = first;
 }
 
 // "Or add it as the next number", where there is room for it.
@@ -144,10 +145,10 @@ fn add(
     es: Edges,
     bucket: usize,
 ) -> Head
-    requires { ⌜ (Lent head (now nodes) (now children) (now cuts) (now index)) × (Buildable (tableOf head (now nodes) (now children) (now cuts)) v es) × (2 ≤ es .len) × (lead .0 ≡ childIn es 0) × (bucket ≡ hashIn v (sign (lead .0)) es (es .len) * room (now nodes) / 4294967296) × (bucket < room (now nodes)) × (head .used < room (now nodes)) × (head .edges + es .len ≤ length (now children)) × (found (tableOf head (now nodes) (now children) (now cuts)) (nodeOf v (sign (lead .0)) es) ≡ 0) ⌝ }
-    ensures { λ r. ⌜ Added head (nodeOf v (sign (lead .0)) es) r (now (nodes .entry)) (now (children .entry)) (now (cuts .entry)) (now (nodes .exit)) (now (children .exit)) (now (cuts .exit)) (now (index .exit)) ⌝ }
+    requires { ⌜ (Lent head (store (now nodes) (now children) (now cuts)) (now index)) × (Buildable (tableOf head (store (now nodes) (now children) (now cuts))) v es) × (2 ≤ es .len) × (lead .0 ≡ childIn es 0) × (bucket ≡ hashIn v (sign (lead .0)) es (es .len) * room (now nodes) / 4294967296) × (bucket < room (now nodes)) × (head .used < room (now nodes)) × (head .edges + es .len ≤ length (now children)) × (found (tableOf head (store (now nodes) (now children) (now cuts))) (nodeOf v (sign (lead .0)) es) ≡ 0) ⌝ }
+    ensures { λ r. ⌜ Added head (nodeOf v (sign (lead .0)) es) r (store (now (nodes .entry)) (now (children .entry)) (now (cuts .entry))) (store (now (nodes .exit)) (now (children .exit)) (now (cuts .exit))) (now (index .exit)) ⌝ }
 {
-    let rooms = nodes.len() / 4;
+    let rooms = nodes.len() / RECORD_WORDS;
     let n = head.used;
     let e = head.edges;
     let count = es.len;
@@ -187,8 +188,8 @@ pub fn create_node(
     v: usize,
     es: Edges,
 ) -> Made
-    requires { ⌜ (Lent head (now nodes) (now children) (now cuts) (now index)) × (Buildable (tableOf head (now nodes) (now children) (now cuts)) v es) ⌝ }
-    ensures { λ r. ⌜ (Outcome head (settle (tableOf head (now (nodes .entry)) (now (children .entry)) (now (cuts .entry))) v (piecesOf es)) r (now (nodes .entry)) (now (children .entry)) (now (cuts .entry)) (now (nodes .exit)) (now (children .exit)) (now (cuts .exit)) (now (index .exit))) × (r .ok ≡ false → Untouched (now (nodes .entry)) (now (children .entry)) (now (cuts .entry)) (now (index .entry)) (now (nodes .exit)) (now (children .exit)) (now (cuts .exit)) (now (index .exit))) ⌝ }
+    requires { ⌜ (Lent head (store (now nodes) (now children) (now cuts)) (now index)) × (Buildable (tableOf head (store (now nodes) (now children) (now cuts))) v es) ⌝ }
+    ensures { λ r. ⌜ (Outcome head (settle (tableOf head (store (now (nodes .entry)) (now (children .entry)) (now (cuts .entry)))) v (piecesOf es)) r (store (now (nodes .entry)) (now (children .entry)) (now (cuts .entry))) (store (now (nodes .exit)) (now (children .exit)) (now (cuts .exit))) (now (index .exit))) × (r .ok ≡ false → Untouched (store (now (nodes .entry)) (now (children .entry)) (now (cuts .entry))) (now (index .entry)) (store (now (nodes .exit)) (now (children .exit)) (now (cuts .exit))) (now (index .exit))) ⌝ }
 {
     let first = es.list[0];
     let lead = first.child;
@@ -199,7 +200,7 @@ pub fn create_node(
             head,
         };
     }
-    let rooms = nodes.len() / 4;
+    let rooms = nodes.len() / RECORD_WORDS;
     let bucket = scaled(hash_edges(v, lead, es), rooms);
     let at = find(nodes, children, cuts, index, head, v, lead, es, bucket);
     if 0 < at {
@@ -236,8 +237,8 @@ pub fn create_pair(
     high: NodeId,
     low: NodeId,
 ) -> Made
-    requires { ⌜ (Lent head (now nodes) (now children) (now cuts) (now index)) × (firstBoolean ≤ v) × (v < variables) × (Child (tableOf head (now nodes) (now children) (now cuts)) (suc v) (high .0)) × (Child (tableOf head (now nodes) (now children) (now cuts)) (suc v) (low .0)) ⌝ }
-    ensures { λ r. ⌜ (Outcome head (create-node (tableOf head (now (nodes .entry)) (now (children .entry)) (now (cuts .entry))) v (cut (high .0) 1 (last (low .0)))) r (now (nodes .entry)) (now (children .entry)) (now (cuts .entry)) (now (nodes .exit)) (now (children .exit)) (now (cuts .exit)) (now (index .exit))) × (r .ok ≡ false → Untouched (now (nodes .entry)) (now (children .entry)) (now (cuts .entry)) (now (index .entry)) (now (nodes .exit)) (now (children .exit)) (now (cuts .exit)) (now (index .exit))) ⌝ }
+    requires { ⌜ (Lent head (store (now nodes) (now children) (now cuts)) (now index)) × (firstBoolean ≤ v) × (v < variables) × (Child (tableOf head (store (now nodes) (now children) (now cuts))) (suc v) (high .0)) × (Child (tableOf head (store (now nodes) (now children) (now cuts))) (suc v) (low .0)) ⌝ }
+    ensures { λ r. ⌜ (Outcome head (create-node (tableOf head (store (now (nodes .entry)) (now (children .entry)) (now (cuts .entry)))) v (cut (high .0) 1 (last (low .0)))) r (store (now (nodes .entry)) (now (children .entry)) (now (cuts .entry))) (store (now (nodes .exit)) (now (children .exit)) (now (cuts .exit))) (now (index .exit))) × (r .ok ≡ false → Untouched (store (now (nodes .entry)) (now (children .entry)) (now (cuts .entry))) (now (index .entry)) (store (now (nodes .exit)) (now (children .exit)) (now (cuts .exit))) (now (index .exit))) ⌝ }
 {
     create_node(nodes, children, cuts, index, head, v, pair_of(high, low))
 }

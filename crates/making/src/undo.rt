@@ -5,10 +5,12 @@ ghost use lib.ListN.{length};
 ghost use Rattle.diagram.specs.Room.{mostEdges};
 ghost use Rattle.making.specs.Storing.{EdgesBlank};
 ghost use Rattle.making.specs.Outcome.{Lent, TakenBack};
+ghost use Rattle.table.specs.Layout.{store};
 use super::nodes::Head;
 use super::nodes::put_record;
 use table::index::hash_of;
 use table::index::scaled;
+use table::limits::RECORD_WORDS;
 use table::words::count_of;
 use table::words::first_of;
 use table::words::var_of;
@@ -34,10 +36,10 @@ fn pop(
     index: &mut [u32],
     head: Head,
 ) -> Head
-    requires { ⌜ (Lent head (now nodes) (now children) (now cuts) (now index)) × (1 ≤ head .used) ⌝ }
-    ensures { λ r. ⌜ TakenBack (head .used - 1) head (now (nodes .entry)) (now (children .entry)) (now (cuts .entry)) r (now (nodes .exit)) (now (children .exit)) (now (cuts .exit)) (now (index .exit)) ⌝ }
+    requires { ⌜ (Lent head (store (now nodes) (now children) (now cuts)) (now index)) × (1 ≤ head .used) ⌝ }
+    ensures { λ r. ⌜ TakenBack (head .used - 1) head (store (now (nodes .entry)) (now (children .entry)) (now (cuts .entry))) r (store (now (nodes .exit)) (now (children .exit)) (now (cuts .exit))) (now (index .exit)) ⌝ }
 {
-    let rooms = nodes.len() / 4;
+    let rooms = nodes.len() / RECORD_WORDS;
     let n = head.used - 1;
     let count = count_of(nodes, n);
     let e = first_of(nodes, n);
@@ -59,8 +61,8 @@ pub fn undo(
     head: Head,
     used: usize,
 ) -> Head
-    requires { ⌜ (Lent head (now nodes) (now children) (now cuts) (now index)) × (used ≤ head .used) ⌝ }
-    ensures { λ r. ⌜ TakenBack used head (now (nodes .entry)) (now (children .entry)) (now (cuts .entry)) r (now (nodes .exit)) (now (children .exit)) (now (cuts .exit)) (now (index .exit)) ⌝ }
+    requires { ⌜ (Lent head (store (now nodes) (now children) (now cuts)) (now index)) × (used ≤ head .used) ⌝ }
+    ensures { λ r. ⌜ TakenBack used head (store (now (nodes .entry)) (now (children .entry)) (now (cuts .entry))) r (store (now (nodes .exit)) (now (children .exit)) (now (cuts .exit))) (now (index .exit)) ⌝ }
 {
     let mut now = head;
     while used < now.used {

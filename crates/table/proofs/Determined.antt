@@ -10,15 +10,15 @@ use lib.Seq.{ext-getD}
 use lib.IntN.{ℤ, pos}
 use Rattle.diagram.specs.Pieces.{Pieces, last, cut, count}
 use Rattle.diagram.specs.Table.{Node, Table, at}
-use Rattle.table.specs.Layout.{varAt, countAt, firstAt, kidAt, cutAt, room, start, level}
+use Rattle.table.specs.Layout.{varAt, countAt, firstAt, kidAt, cutAt, room, start, cutPosition, Store}
 use Rattle.table.specs.Indexed.{bucketAt, LastIn}
 use Rattle.table.specs.Lent.{Rules, Blank, SoundLent}
 use Rattle.table.specs.Held.{nodeAt, held}
 use Rattle.table.proofs.Laws as laws
-use Rattle.table.proofs.Levels.{climbs}
+use Rattle.table.proofs.CutPositions.{climbs}
 use Rattle.table.proofs.Chain.{Order, less, equal, more, order}
 use Rattle.table.proofs.Scan.{table-length}
-use Rattle.table.proofs.Bridge.{count-from, kid-of, kid-from, cut-of, cut-from, range-edges, bool-edges, table-at, level-one}
+use Rattle.table.proofs.Bridge.{count-from, kid-of, kid-from, cut-of, cut-from, range-edges, bool-edges, table-at, cut-position-one}
 
 -- the index word is determined
 pub last-one : (B : ℕ → ℕ) (b n x y : ℕ) → LastIn B b n x → LastIn B b n y → x ≡ y
@@ -46,162 +46,151 @@ locate nodes (suc u) i h = ⊎-elim (λ l. further (locate nodes u i l)) (λ g. 
     further (found n j a b e) = found n j (omega arith) b e
 
 -- what a record's node tells of its words
-module _ (nodes children : List ℕ) (cuts : List ℤ) (n : ℕ) (r : Rules nodes children cuts n) where
-  pub count-node : count (nodeAt nodes children cuts n .edges) ≡ countAt nodes n
-  count-node = ⊎-elim (λ h. ap count (range-edges children cuts (varAt nodes n) (firstAt nodes n) (countAt nodes n) h) ∙ (count-from children cuts (firstAt nodes n) (countAt nodes n - 1) ∙ (let a = r .many in let e : suc (countAt nodes n - 1) ≡ countAt nodes n = omega arith in e)))
-      (λ h. ap count (bool-edges children cuts (varAt nodes n) (firstAt nodes n) (countAt nodes n) h) ∙ sym (r .two h)) (laws.split (varAt nodes n) 32)
+module _ (st : Store) (n : ℕ) (r : Rules st n) where
+  pub count-node : count (nodeAt st n .edges) ≡ countAt (st .nodes) n
+  count-node = ⊎-elim (λ h. ap count (range-edges (st .children) (st .cuts) (varAt (st .nodes) n) (firstAt (st .nodes) n) (countAt (st .nodes) n) h) ∙ (count-from (st .children) (st .cuts) (firstAt (st .nodes) n) (countAt (st .nodes) n - 1) ∙ (let a = r .many in let e : suc (countAt (st .nodes) n - 1) ≡ countAt (st .nodes) n = omega arith in e)))
+      (λ h. ap count (bool-edges (st .children) (st .cuts) (varAt (st .nodes) n) (firstAt (st .nodes) n) (countAt (st .nodes) n) h) ∙ sym (r .two h)) (laws.split (varAt (st .nodes) n) 32)
 
-  pub kid-node : (j : ℕ) → j < countAt nodes n → kid-of (nodeAt nodes children cuts n .edges) j ≡ kidAt children (start nodes n + j)
+  pub kid-node : (j : ℕ) → j < countAt (st .nodes) n → kid-of (nodeAt st n .edges) j ≡ kidAt (st .children) (start (st .nodes) n + j)
   unfolding kid-of
-  kid-node j l = ⊎-elim (λ h. ap (λ (e : (Pieces ℕ)). kid-of e j) (range-edges children cuts (varAt nodes n) (firstAt nodes n) (countAt nodes n) h) ∙ (kid-from children cuts (firstAt nodes n) (countAt nodes n - 1) j (omega arith) ∙ to-start))
-      (λ h. ap (λ (e : (Pieces ℕ)). kid-of e j) (bool-edges children cuts (varAt nodes n) (firstAt nodes n) (countAt nodes n) h) ∙ (two j (omega (arith, r .two h)) ∙ to-start)) (laws.split (varAt nodes n) 32)
+  kid-node j l = ⊎-elim (λ h. ap (λ (e : (Pieces ℕ)). kid-of e j) (range-edges (st .children) (st .cuts) (varAt (st .nodes) n) (firstAt (st .nodes) n) (countAt (st .nodes) n) h) ∙ (kid-from (st .children) (st .cuts) (firstAt (st .nodes) n) (countAt (st .nodes) n - 1) j (omega arith) ∙ to-start))
+      (λ h. ap (λ (e : (Pieces ℕ)). kid-of e j) (bool-edges (st .children) (st .cuts) (varAt (st .nodes) n) (firstAt (st .nodes) n) (countAt (st .nodes) n) h) ∙ (two j (omega (arith, r .two h)) ∙ to-start)) (laws.split (varAt (st .nodes) n) 32)
     where
-      to-start : kidAt children (firstAt nodes n + j) ≡ kidAt children (start nodes n + j)
-      to-start = ap (λ (i : ℕ). kidAt children (i + j)) (r .packed)
+      to-start : kidAt (st .children) (firstAt (st .nodes) n + j) ≡ kidAt (st .children) (start (st .nodes) n + j)
+      to-start = ap (λ (i : ℕ). kidAt (st .children) (i + j)) (r .packed)
 
-      two : (j : ℕ) → j < 2 → kid-of (cut (kidAt children (firstAt nodes n)) 1 (last (kidAt children (firstAt nodes n + 1)))) j ≡ kidAt children (firstAt nodes n + j)
-      two zero l = let a : firstAt nodes n ≡ firstAt nodes n + 0 = omega arith in laws.at children (firstAt nodes n) (firstAt nodes n + 0) a
+      two : (j : ℕ) → j < 2 → kid-of (cut (kidAt (st .children) (firstAt (st .nodes) n)) 1 (last (kidAt (st .children) (firstAt (st .nodes) n + 1)))) j ≡ kidAt (st .children) (firstAt (st .nodes) n + j)
+      two zero l = let a : firstAt (st .nodes) n ≡ firstAt (st .nodes) n + 0 = omega arith in laws.at (st .children) (firstAt (st .nodes) n) (firstAt (st .nodes) n + 0) a
       two (suc zero) l = refl
       two (suc (suc j)) l = absurd (omega arith)
 
-  -- a cut beside no last edge of a range node, by its level; any other is 0
-  pub level-node : (j : ℕ) → varAt nodes n < 32 → j + 1 < countAt nodes n → cut-of (nodeAt nodes children cuts n .edges) j ≡ level (cutAt cuts (start nodes n + j))
-  level-node j h l = ap (λ (e : (Pieces ℕ)). cut-of e j) (range-edges children cuts (varAt nodes n) (firstAt nodes n) (countAt nodes n) h) ∙ (cut-from children cuts (firstAt nodes n) (countAt nodes n - 1) j (omega arith) ∙ ap (λ (i : ℕ). level (cutAt cuts (i + j))) (r .packed))
+  -- a cut beside no last edge of a range node, by its cutPosition; any other is 0
+  pub cut-position-node : (j : ℕ) → varAt (st .nodes) n < 32 → j + 1 < countAt (st .nodes) n → cut-of (nodeAt st n .edges) j ≡ cutPosition (cutAt (st .cuts) (start (st .nodes) n + j))
+  cut-position-node j h l = ap (λ (e : (Pieces ℕ)). cut-of e j) (range-edges (st .children) (st .cuts) (varAt (st .nodes) n) (firstAt (st .nodes) n) (countAt (st .nodes) n) h) ∙ (cut-from (st .children) (st .cuts) (firstAt (st .nodes) n) (countAt (st .nodes) n - 1) j (omega arith) ∙ ap (λ (i : ℕ). cutPosition (cutAt (st .cuts) (i + j))) (r .packed))
 
-  pub level-some : (j : ℕ) → varAt nodes n < 32 → j + 1 < countAt nodes n → 0 < level (cutAt cuts (start nodes n + j))
-  level-some j h l = let e = ap (λ (i : ℕ). level (cutAt cuts (i + j))) (r .packed) in omega (arith, climbs nodes children cuts n r h .rise j l, e)
+  pub cut-position-some : (j : ℕ) → varAt (st .nodes) n < 32 → j + 1 < countAt (st .nodes) n → 0 < cutPosition (cutAt (st .cuts) (start (st .nodes) n + j))
+  cut-position-some j h l = let e = ap (λ (i : ℕ). cutPosition (cutAt (st .cuts) (i + j))) (r .packed) in omega (arith, climbs st n r h .rise j l, e)
 
-  start-cut : (j : ℕ) → cutAt cuts (start nodes n + j) ≡ cutAt cuts (firstAt nodes n + j)
-  start-cut j = sym (ap (λ (i : ℕ). cutAt cuts (i + j)) (r .packed))
+  start-cut : (j : ℕ) → cutAt (st .cuts) (start (st .nodes) n + j) ≡ cutAt (st .cuts) (firstAt (st .nodes) n + j)
+  start-cut j = sym (ap (λ (i : ℕ). cutAt (st .cuts) (i + j)) (r .packed))
 
-  pub no-cut-last : (j : ℕ) → varAt nodes n < 32 → j < countAt nodes n → countAt nodes n ≤ j + 1 → cutAt cuts (start nodes n + j) ≡ pos 0
-  no-cut-last j h l g = let a : firstAt nodes n + j ≡ firstAt nodes n + (countAt nodes n - 1) = omega arith in start-cut j ∙ (ap (cutAt cuts) a ∙ r .ranges h .last)
+  pub no-cut-last : (j : ℕ) → varAt (st .nodes) n < 32 → j < countAt (st .nodes) n → countAt (st .nodes) n ≤ j + 1 → cutAt (st .cuts) (start (st .nodes) n + j) ≡ pos 0
+  no-cut-last j h l g = let a : firstAt (st .nodes) n + j ≡ firstAt (st .nodes) n + (countAt (st .nodes) n - 1) = omega arith in start-cut j ∙ (ap (cutAt (st .cuts)) a ∙ r .ranges h .last)
 
-  pub no-cut-bool : (j : ℕ) → 32 ≤ varAt nodes n → j < countAt nodes n → cutAt cuts (start nodes n + j) ≡ pos 0
+  pub no-cut-bool : (j : ℕ) → 32 ≤ varAt (st .nodes) n → j < countAt (st .nodes) n → cutAt (st .cuts) (start (st .nodes) n + j) ≡ pos 0
   no-cut-bool j h l = start-cut j ∙ two j (omega (arith, r .two h)) (r .booleans h)
     where
-      two : (j : ℕ) → j < 2 → Blank cuts (firstAt nodes n) → cutAt cuts (firstAt nodes n + j) ≡ pos 0
-      two zero l b = let a : firstAt nodes n + 0 ≡ firstAt nodes n = omega arith in ap (cutAt cuts) a ∙ b .high
+      two : (j : ℕ) → j < 2 → Blank (st .cuts) (firstAt (st .nodes) n) → cutAt (st .cuts) (firstAt (st .nodes) n + j) ≡ pos 0
+      two zero l b = let a : firstAt (st .nodes) n + 0 ≡ firstAt (st .nodes) n = omega arith in ap (cutAt (st .cuts)) a ∙ b .high
       two (suc zero) l b = b .low
       two (suc (suc j)) l b = absurd (omega arith)
 
-module _ (nodes children : List ℕ) (cuts : List ℤ) (index nodes' children' : List ℕ) (cuts' : List ℤ) (index' : List ℕ) (u : ℕ)
-    (s : SoundLent nodes children cuts index u) (s' : SoundLent nodes' children' cuts' index' u) (means : held nodes children cuts u ≡ held nodes' children' cuts' u) where
-  node : (n : ℕ) → n < u → nodeAt nodes children cuts n ≡ nodeAt nodes' children' cuts' n
-  node n l = sym (table-at nodes children cuts u n l) ∙ (ap (λ (t : Table). at t (suc n)) means ∙ table-at nodes' children' cuts' u n l)
+module _ (st : Store) (index : List ℕ) (st' : Store) (index' : List ℕ) (u : ℕ)
+    (s : SoundLent st index u) (s' : SoundLent st' index' u) (means : held st u ≡ held st' u) where
+  node : (n : ℕ) → n < u → nodeAt st n ≡ nodeAt st' n
+  node n l = sym (table-at st u n l) ∙ (ap (λ (t : Table). at t (suc n)) means ∙ table-at st' u n l)
 
-  var : (n : ℕ) → n < u → varAt nodes n ≡ varAt nodes' n
+  var : (n : ℕ) → n < u → varAt (st .nodes) n ≡ varAt (st' .nodes) n
   var n l = ap (λ (x : Node). x .var) (node n l)
 
-  edges : (n : ℕ) → n < u → nodeAt nodes children cuts n .edges ≡ nodeAt nodes' children' cuts' n .edges
+  edges : (n : ℕ) → n < u → nodeAt st n .edges ≡ nodeAt st' n .edges
   edges n l = ap (λ (x : Node). x .edges) (node n l)
 
-  counts : (n : ℕ) → n < u → countAt nodes n ≡ countAt nodes' n
-  counts n l = sym (count-node nodes children cuts n (s .rules n l)) ∙ (ap count (edges n l) ∙ count-node nodes' children' cuts' n (s' .rules n l))
+  counts : (n : ℕ) → n < u → countAt (st .nodes) n ≡ countAt (st' .nodes) n
+  counts n l = sym (count-node st n (s .records .rules n l)) ∙ (ap count (edges n l) ∙ count-node st' n (s' .records .rules n l))
 
-  starts : (n : ℕ) → n ≤ u → start nodes n ≡ start nodes' n
+  starts : (n : ℕ) → n ≤ u → start (st .nodes) n ≡ start (st' .nodes) n
   unfolding start
   starts zero h = refl
   starts (suc n) h = let a = starts n (omega arith) in let b = counts n (omega arith) in omega arith
 
-  word : (i : ℕ) → getD nodes i 0 ≡ getD nodes' i 0
-  word i = ⊎-elim (λ l. used (i / 4) (i % 4) (omega arith) (omega arith) (omega arith)) (λ g. s .no-node i g ∙ sym (s' .no-node i g)) (laws.split i (u * 4))
+  word : (i : ℕ) → getD (st .nodes) i 0 ≡ getD (st' .nodes) i 0
+  word i = ⊎-elim (λ l. used (i / 4) (i % 4) (omega arith) (omega arith) (omega arith)) (λ g. s .records .no-node i g ∙ sym (s' .records .no-node i g)) (laws.split i (u * 4))
     where
-      move : (n k : ℕ) → i ≡ n * 4 + k → getD nodes (n * 4 + k) 0 ≡ getD nodes' (n * 4 + k) 0 → getD nodes i 0 ≡ getD nodes' i 0
-      move n k e q = laws.at nodes i (n * 4 + k) e ∙ (q ∙ sym (laws.at nodes' i (n * 4 + k) e))
+      move : (n k : ℕ) → i ≡ n * 4 + k → getD (st .nodes) (n * 4 + k) 0 ≡ getD (st' .nodes) (n * 4 + k) 0 → getD (st .nodes) i 0 ≡ getD (st' .nodes) i 0
+      move n k e q = laws.at (st .nodes) i (n * 4 + k) e ∙ (q ∙ sym (laws.at (st' .nodes) i (n * 4 + k) e))
 
-      used : (n k : ℕ) → i ≡ n * 4 + k → k < 4 → n < u → getD nodes i 0 ≡ getD nodes' i 0
-      used n zero e h l = let a : n * 4 + 0 ≡ n * 4 = omega arith in move n 0 e (laws.at nodes (n * 4 + 0) (n * 4) a ∙ (var n l ∙ sym (laws.at nodes' (n * 4 + 0) (n * 4) a)))
+      used : (n k : ℕ) → i ≡ n * 4 + k → k < 4 → n < u → getD (st .nodes) i 0 ≡ getD (st' .nodes) i 0
+      used n zero e h l = let a : n * 4 + 0 ≡ n * 4 = omega arith in move n 0 e (laws.at (st .nodes) (n * 4 + 0) (n * 4) a ∙ (var n l ∙ sym (laws.at (st' .nodes) (n * 4 + 0) (n * 4) a)))
       used n (suc zero) e h l = move n 1 e (counts n l)
-      used n (suc (suc zero)) e h l = move n 2 e (s .rules n l .packed ∙ (starts n (omega arith) ∙ sym (s' .rules n l .packed)))
-      used n (suc (suc (suc zero))) e h l = move n 3 e (s .rules n l .spare ∙ sym (s' .rules n l .spare))
+      used n (suc (suc zero)) e h l = move n 2 e (s .records .rules n l .packed ∙ (starts n (omega arith) ∙ sym (s' .records .rules n l .packed)))
+      used n (suc (suc (suc zero))) e h l = move n 3 e (s .records .rules n l .spare ∙ sym (s' .records .rules n l .spare))
       used n (suc (suc (suc (suc k)))) e h l = absurd (omega arith)
 
-  child : (i : ℕ) → kidAt children i ≡ kidAt children' i
-  child i = ⊎-elim (λ l. used (locate nodes u i l)) (λ g. s .no-child i g ∙ sym (s' .no-child i (omega (arith, starts u (omega arith))))) (laws.split i (start nodes u))
+  child : (i : ℕ) → kidAt (st .children) i ≡ kidAt (st' .children) i
+  child i = ⊎-elim (λ l. used (locate (st .nodes) u i l)) (λ g. s .records .no-child i g ∙ sym (s' .records .no-child i (omega (arith, starts u (omega arith))))) (laws.split i (start (st .nodes) u))
     where
-      used : Located nodes u i → kidAt children i ≡ kidAt children' i
+      used : Located (st .nodes) u i → kidAt (st .children) i ≡ kidAt (st' .children) i
       used (found n j l h e) =
           let a = starts n (omega arith) in
-          laws.at children i (start nodes n + j) e ∙ (sym (kid-node nodes children cuts n (s .rules n l) j h) ∙ (ap (λ (x : (Pieces ℕ)). kid-of x j) (edges n l)
-          ∙ (kid-node nodes' children' cuts' n (s' .rules n l) j (omega (arith, counts n l)) ∙ laws.at children' (start nodes' n + j) i (omega arith))))
+          laws.at (st .children) i (start (st .nodes) n + j) e ∙ (sym (kid-node st n (s .records .rules n l) j h) ∙ (ap (λ (x : (Pieces ℕ)). kid-of x j) (edges n l)
+          ∙ (kid-node st' n (s' .records .rules n l) j (omega (arith, counts n l)) ∙ laws.at (st' .children) (start (st' .nodes) n + j) i (omega arith))))
 
-  cut-cell : (i : ℕ) → cutAt cuts i ≡ cutAt cuts' i
-  cut-cell i = ⊎-elim (λ l. used (locate nodes u i l)) (λ g. s .no-cut i g ∙ sym (s' .no-cut i (omega (arith, starts u (omega arith))))) (laws.split i (start nodes u))
+  cut-cell : (i : ℕ) → cutAt (st .cuts) i ≡ cutAt (st' .cuts) i
+  cut-cell i = ⊎-elim (λ l. used (locate (st .nodes) u i l)) (λ g. s .records .no-cut i g ∙ sym (s' .records .no-cut i (omega (arith, starts u (omega arith))))) (laws.split i (start (st .nodes) u))
     where
-      used : Located nodes u i → cutAt cuts i ≡ cutAt cuts' i
-      used (found n j l h e) = let a = starts n (omega arith) in let b : i ≡ start nodes' n + j = omega arith in ap (cutAt cuts) e ∙ (both (laws.split (varAt nodes n) 32) (laws.split (j + 1) (countAt nodes n)) ∙ sym (ap (cutAt cuts') b))
+      used : Located (st .nodes) u i → cutAt (st .cuts) i ≡ cutAt (st' .cuts) i
+      used (found n j l h e) = let a = starts n (omega arith) in let b : i ≡ start (st' .nodes) n + j = omega arith in ap (cutAt (st .cuts)) e ∙ (both (laws.split (varAt (st .nodes) n) 32) (laws.split (j + 1) (countAt (st .nodes) n)) ∙ sym (ap (cutAt (st' .cuts)) b))
         where
-          r : Rules nodes children cuts n
-          r = s .rules n l
+          r : Rules st n
+          r = s .records .rules n l
 
-          r' : Rules nodes' children' cuts' n
-          r' = s' .rules n l
+          r' : Rules st' n
+          r' = s' .records .rules n l
 
-          k : countAt nodes n ≡ countAt nodes' n
+          k : countAt (st .nodes) n ≡ countAt (st' .nodes) n
           k = counts n l
 
-          v : varAt nodes n ≡ varAt nodes' n
+          v : varAt (st .nodes) n ≡ varAt (st' .nodes) n
           v = var n l
 
-          both : (varAt nodes n < 32) ⊎ (32 ≤ varAt nodes n) → (j + 1 < countAt nodes n) ⊎ (countAt nodes n ≤ j + 1) → cutAt cuts (start nodes n + j) ≡ cutAt cuts' (start nodes' n + j)
-          both (inl a) (inl b) = level-one (cutAt cuts (start nodes n + j)) (cutAt cuts' (start nodes' n + j)) (level-some nodes children cuts n r j a b)
-              (sym (level-node nodes children cuts n r j a b) ∙ (ap (λ (x : (Pieces ℕ)). cut-of x j) (edges n l) ∙ level-node nodes' children' cuts' n r' j (omega (arith, v)) (omega (arith, k))))
-          both (inl a) (inr b) = no-cut-last nodes children cuts n r j a h b ∙ sym (no-cut-last nodes' children' cuts' n r' j (omega (arith, v)) (omega (arith, k)) (omega (arith, k)))
-          both (inr a) b = no-cut-bool nodes children cuts n r j a h ∙ sym (no-cut-bool nodes' children' cuts' n r' j (omega (arith, v)) (omega (arith, k)))
+          both : (varAt (st .nodes) n < 32) ⊎ (32 ≤ varAt (st .nodes) n) → (j + 1 < countAt (st .nodes) n) ⊎ (countAt (st .nodes) n ≤ j + 1) → cutAt (st .cuts) (start (st .nodes) n + j) ≡ cutAt (st' .cuts) (start (st' .nodes) n + j)
+          both (inl a) (inl b) = cut-position-one (cutAt (st .cuts) (start (st .nodes) n + j)) (cutAt (st' .cuts) (start (st' .nodes) n + j)) (cut-position-some st n r j a b)
+              (sym (cut-position-node st n r j a b) ∙ (ap (λ (x : (Pieces ℕ)). cut-of x j) (edges n l) ∙ cut-position-node st' n r' j (omega (arith, v)) (omega (arith, k))))
+          both (inl a) (inr b) = no-cut-last st n r j a h b ∙ sym (no-cut-last st' n r' j (omega (arith, v)) (omega (arith, k)) (omega (arith, k)))
+          both (inr a) b = no-cut-bool st n r j a h ∙ sym (no-cut-bool st' n r' j (omega (arith, v)) (omega (arith, k)))
 
-  module _ (long : length nodes ≡ length nodes') (wide : length children ≡ length children') (deep : length cuts ≡ length cuts') where
-    pub same-nodes : nodes ≡ nodes'
-    same-nodes = ext-getD 0 nodes nodes' long (λ i l. word i)
+  module _ (long : length (st .nodes) ≡ length (st' .nodes)) (wide : length (st .children) ≡ length (st' .children)) (deep : length (st .cuts) ≡ length (st' .cuts)) where
+    pub same-nodes : (st .nodes) ≡ (st' .nodes)
+    same-nodes = ext-getD 0 (st .nodes) (st' .nodes) long (λ i l. word i)
 
-    pub same-kids : children ≡ children'
-    same-kids = ext-getD 0 children children' wide (λ i l. child i)
+    pub same-kids : (st .children) ≡ (st' .children)
+    same-kids = ext-getD 0 (st .children) (st' .children) wide (λ i l. child i)
 
-    pub same-cuts : cuts ≡ cuts'
-    same-cuts = ext-getD (pos 0) cuts cuts' deep (λ i l. cut-cell i)
+    pub same-cuts : (st .cuts) ≡ (st' .cuts)
+    same-cuts = ext-getD (pos 0) (st .cuts) (st' .cuts) deep (λ i l. cut-cell i)
 
 -- the index of the same records
-pub same-index : (nodes children : List ℕ) (cuts : List ℤ) (index index' : List ℕ) (u : ℕ) → SoundLent nodes children cuts index u → SoundLent nodes children cuts index' u → length index ≡ length index' → index ≡ index'
-same-index nodes children cuts index index' u s s' long = ext-getD 0 index index' long (λ i l. cell i)
+pub same-index : (st : Store) (index index' : List ℕ) (u : ℕ) → SoundLent st index u → SoundLent st index' u → length index ≡ length index' → index ≡ index'
+same-index st index index' u s s' long = ext-getD 0 index index' long (λ i l. cell i)
   where
     B : ℕ → ℕ
-    B = bucketAt nodes children cuts
+    B = bucketAt st
 
     cell : (i : ℕ) → getD index i 0 ≡ getD index' i 0
-    cell i = ⊎-elim (λ l. last-one (bucketAt nodes children cuts) i u _ _ (s .heads i l) (s' .heads i l)) (λ g. ⊎-elim (λ l. next (i - room nodes) (omega arith) (omega arith)) (λ h. s .no-next i h ∙ sym (s' .no-next i h)) (laws.split i (room nodes + u))) (laws.split i (room nodes))
+    cell i = ⊎-elim (λ l. last-one (bucketAt st) i u _ _ (s .indexed .heads i l) (s' .indexed .heads i l)) (λ g. ⊎-elim (λ l. next (i - room (st .nodes)) (omega arith) (omega arith)) (λ h. s .indexed .no-next i h ∙ sym (s' .indexed .no-next i h)) (laws.split i (room (st .nodes) + u))) (laws.split i (room (st .nodes)))
       where
-        next : (n : ℕ) → i ≡ room nodes + n → n < u → getD index i 0 ≡ getD index' i 0
-        next n e l = laws.at index i (room nodes + n) e ∙ (last-one (bucketAt nodes children cuts) (bucketAt nodes children cuts n) n _ _ (s .nexts n l) (s' .nexts n l) ∙ sym (laws.at index' i (room nodes + n) e))
+        next : (n : ℕ) → i ≡ room (st .nodes) + n → n < u → getD index i 0 ≡ getD index' i 0
+        next n e l = laws.at index i (room (st .nodes) + n) e ∙ (last-one (bucketAt st) (bucketAt st n) n _ _ (s .indexed .nexts n l) (s' .indexed .nexts n l) ∙ sym (laws.at index' i (room (st .nodes) + n) e))
 
-pub record AllSame (nodes children : List ℕ) (cuts : List ℤ) (index nodes' children' : List ℕ) (cuts' : List ℤ) (index' : List ℕ) : Type 0 where
-  pub each-node : nodes ≡ nodes'
-  pub each-kid : children ≡ children'
-  pub each-cut : cuts ≡ cuts'
-  pub each-word : index ≡ index'
+-- words that are the same list by list
+pub same-store : {st st' : Store} → st .nodes ≡ st' .nodes → st .children ≡ st' .children → st .cuts ≡ st' .cuts → st ≡ st'
+same-store p q r = λ i. record { nodes = p i; children = q i; cuts = r i }
 
 -- every cell is determined by the lengths and by what the table means
-pub determined : (nodes children : List ℕ) (cuts : List ℤ) (index nodes' children' : List ℕ) (cuts' : List ℤ) (index' : List ℕ) (u u' : ℕ)
-    → length nodes ≡ length nodes' → length children ≡ length children' → length cuts ≡ length cuts' → length index ≡ length index'
-    → SoundLent nodes children cuts index u → SoundLent nodes' children' cuts' index' u' → held nodes children cuts u ≡ held nodes' children' cuts' u' → AllSame nodes children cuts index nodes' children' cuts' index'
-determined nodes children cuts index nodes' children' cuts' index' u u' a b c d s s' m = record { each-node = pn; each-kid = pk; each-cut = pc; each-word = same-index nodes children cuts index index' u s back d }
+pub determined : (st : Store) (index : List ℕ) (st' : Store) (index' : List ℕ) (u u' : ℕ)
+    → length (st .nodes) ≡ length (st' .nodes) → length (st .children) ≡ length (st' .children) → length (st .cuts) ≡ length (st' .cuts) → length index ≡ length index'
+    → SoundLent st index u → SoundLent st' index' u' → held st u ≡ held st' u' → (st ≡ st') × (index ≡ index')
+determined st index st' index' u u' a b c d s s' m = (same, same-index st index index' u s (subst (λ (x : Store). SoundLent x index' u) (sym same) t) d)
   where
     e : u' ≡ u
-    e = sym (sym (table-length nodes children cuts u) ∙ (ap length m ∙ table-length nodes' children' cuts' u'))
+    e = sym (sym (table-length st u) ∙ (ap length m ∙ table-length st' u'))
 
-    t : SoundLent nodes' children' cuts' index' u
-    t = subst (SoundLent nodes' children' cuts' index') e s'
+    t : SoundLent st' index' u
+    t = subst (SoundLent st' index') e s'
 
-    n : held nodes children cuts u ≡ held nodes' children' cuts' u
-    n = m ∙ ap (held nodes' children' cuts') e
+    n : held st u ≡ held st' u
+    n = m ∙ ap (held st') e
 
-    pn : nodes ≡ nodes'
-    pn = same-nodes nodes children cuts index nodes' children' cuts' index' u s t n a b c
-
-    pk : children ≡ children'
-    pk = same-kids nodes children cuts index nodes' children' cuts' index' u s t n a b c
-
-    pc : cuts ≡ cuts'
-    pc = same-cuts nodes children cuts index nodes' children' cuts' index' u s t n a b c
-
-    back : SoundLent nodes children cuts index' u
-    back = subst (λ (x : List ℕ). SoundLent x children cuts index' u) (sym pn) (subst (λ (x : List ℕ). SoundLent nodes' x cuts index' u) (sym pk) (subst (λ (x : List ℤ). SoundLent nodes' children' x index' u) (sym pc) t))
+    same : st ≡ st'
+    same = same-store (same-nodes st index st' index' u s t n a b c) (same-kids st index st' index' u s t n a b c) (same-cuts st index st' index' u s t n a b c)

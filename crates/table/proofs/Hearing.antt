@@ -13,12 +13,12 @@ use Rattle.ids.specs.Index.{KnownTo}
 use Rattle.ranges.specs.Line.{position}
 use Rattle.diagram.specs.Table.{firstBoolean, isRange, value}
 use Rattle.diagram.specs.Reading.{positions}
-use Rattle.table.specs.Layout.{cutAt, start, level}
+use Rattle.table.specs.Layout.{cutAt, start, cutPosition, Store, store}
 use Rattle.table.specs.Lent.{SoundLent}
 use Rattle.table.specs.Held.{held}
-use Rattle.table.specs.Told.{Allowed, Asked, Checks, checked-1, checked-2, checked-0, Freshens, freshened-1, freshened-0, Places, bit, readingOf, Hears, heard-1, heard-2, heard-3, heard-5, heard-0}
+use Rattle.table.specs.Told.{Allowed, AllowedReading, Checks, checked-1, checked-2, checked-0, Freshens, freshened-1, freshened-0, Places, bit, readingOf, Hears, heard-1, heard-2, heard-3, heard-5, heard-0}
 use Rattle.table.specs.Checking.{spots, Judges, sound, unsound}
-use Rattle.table.proofs.Levels.{level-place}
+use Rattle.table.proofs.CutPositions.{cut-position-place}
 use Rattle.table.proofs.Once.{sound-once}
 
 -- the positions that the code reads are those of document 01's reading
@@ -32,8 +32,8 @@ spots-reading places bools ok = fun-ext (λ v. go v (isRange v) refl)
     digit (suc (suc n)) h = absurd (omega arith)
 
     go : (v : ℕ) (b : Bool) → isRange v ≡ b
-        → cond b (level (cutAt places v)) (1 - bit bools (v - firstBoolean)) ≡ cond b (position (cond b (cutAt places v) (pos 0))) (cond (eqb (bit bools (v - firstBoolean)) 1) 0 1)
-    go v true e = level-place (cutAt places v) (ok v (ltb-true v firstBoolean e))
+        → cond b (cutPosition (cutAt places v)) (1 - bit bools (v - firstBoolean)) ≡ cond b (position (cond b (cutAt places v) (pos 0))) (cond (eqb (bit bools (v - firstBoolean)) 1) 0 1)
+    go v true e = cut-position-place (cutAt places v) (ok v (ltb-true v firstBoolean e))
     go v false e = digit (bit bools (v - firstBoolean)) (omega arith)
 
 -- the range test decides whether an id is known
@@ -43,33 +43,33 @@ known u id e t = leb-true (ref id) u (sym e ∙ t)
 pub unknown : (u id : ℕ) {b : Bool} → b ≡ leb (ref id) u → b ≡ false → KnownTo u id → ⊥
 unknown u id e f k = omega (arith, leb-false (ref id) u (sym e ∙ f))
 
-module _ (nodes children : List ℕ) (cuts : List ℤ) (index : List ℕ) where
+module _ (st : Store) (index : List ℕ) where
   -- what the check says by its number
-  pub check-passes : {k u e : ℕ} → Checks nodes children cuts index k u e → k ≡ 0 → Allowed nodes children cuts index × SoundLent nodes children cuts index u
+  pub check-passes : {k u e : ℕ} → Checks st index k u e → k ≡ 0 → Allowed st index × SoundLent st index u
   check-passes (checked-1 f) q = absurd (omega arith)
   check-passes (checked-2 a f) q = absurd (omega arith)
   check-passes (checked-0 a u s) q = (a, s)
 
-  pub checks-it : {u e : ℕ} {b : Bool} → Allowed nodes children cuts index → Judges nodes children cuts index u e b → b ≡ true → Checks nodes children cuts index 0 u e
+  pub checks-it : {u e : ℕ} {b : Bool} → Allowed st index → Judges st index u e b → b ≡ true → Checks st index 0 u e
   checks-it {u} a (sound s q) t = rw q (checked-0 a u s)
   checks-it a (unsound f) t = absurd (false≢true t)
 
-  pub check-refuses : {k u e : ℕ} (places : List ℤ) (bools id : ℕ) → length places ≡ firstBoolean → Checks nodes children cuts index k u e → (k ≡ 0 → ⊥) → Hears nodes children cuts index places bools id k false
+  pub check-refuses : {k u e : ℕ} (places : List ℤ) (bools id : ℕ) → length places ≡ firstBoolean → Checks st index k u e → (k ≡ 0 → ⊥) → Hears st index places bools id k false
   check-refuses places bools id l (checked-1 f) n = heard-1 (λ x. f (x .0))
   check-refuses places bools id l (checked-2 a f) n = heard-2 (a, l) f
   check-refuses places bools id l (checked-0 a u s) n = absurd (n refl)
 
   -- the last answer, from what the code reads with a number that is its argument
-  pub hears-it : {u : ℕ} (places : List ℤ) (bools id : ℕ) → Asked nodes children cuts index places → SoundLent nodes children cuts index u → KnownTo u id → Places places
-      → {bools′ : ℕ} → bools′ ≡ bools → (b : Bool) → b ≡ value (held nodes children cuts u) (spots places bools′) id → Hears nodes children cuts index places bools id 0 b
+  pub hears-it : {u : ℕ} (places : List ℤ) (bools id : ℕ) → AllowedReading st index places → SoundLent st index u → KnownTo u id → Places places
+      → {bools′ : ℕ} → bools′ ≡ bools → (b : Bool) → b ≡ value (held st u) (spots places bools′) id → Hears st index places bools id 0 b
   hears-it {u} places bools id a s k ok p b e = rw (e, p, spots-reading places bools ok) (heard-0 a u s k ok)
 
-  pub freshens-it : {n c i : List ℕ} {k : List ℤ} → Allowed nodes children cuts index → n ≡ replicate (length nodes) 0 → c ≡ replicate (length children) 0 → k ≡ replicate (length cuts) (pos 0)
-      → i ≡ replicate (length index) 0 → Freshens nodes children cuts index 0 n c k i
+  pub freshens-it : {n c i : List ℕ} {k : List ℤ} → Allowed st index → n ≡ replicate (length (st .nodes)) 0 → c ≡ replicate (length (st .children)) 0 → k ≡ replicate (length (st .cuts)) (pos 0)
+      → i ≡ replicate (length index) 0 → Freshens st index 0 (store n c k) i
   freshens-it a p q r s = rw (p, q, r, s) (freshened-0 a)
 
   -- any two outcomes that a contract permits are the same
-  pub checks-once : {k k′ u u′ e e′ : ℕ} → Checks nodes children cuts index k u e → Checks nodes children cuts index k′ u′ e′ → (k ≡ k′) × (u ≡ u′) × (e ≡ e′)
+  pub checks-once : {k k′ u u′ e e′ : ℕ} → Checks st index k u e → Checks st index k′ u′ e′ → (k ≡ k′) × (u ≡ u′) × (e ≡ e′)
   checks-once (checked-1 f) (checked-1 g) = (refl, refl, refl)
   checks-once (checked-1 f) (checked-2 a g) = absurd (f a)
   checks-once (checked-1 f) (checked-0 a u s) = absurd (f a)
@@ -78,18 +78,18 @@ module _ (nodes children : List ℕ) (cuts : List ℤ) (index : List ℕ) where
   checks-once (checked-2 a f) (checked-0 b u s) = absurd (f u s)
   checks-once (checked-0 a u s) (checked-1 g) = absurd (g a)
   checks-once (checked-0 a u s) (checked-2 b g) = absurd (g u s)
-  checks-once (checked-0 a u s) (checked-0 b v r) = let q = sound-once nodes children cuts index u v s r in (refl, q, ap (start nodes) q)
+  checks-once (checked-0 a u s) (checked-0 b v r) = let q = sound-once st index u v s r in (refl, q, ap (start (st .nodes)) q)
 
-  pub freshens-once : {k k′ : ℕ} {n n′ c c′ i i′ : List ℕ} {t t′ : List ℤ} → Freshens nodes children cuts index k n c t i → Freshens nodes children cuts index k′ n′ c′ t′ i′
-      → (k ≡ k′) × (n ≡ n′) × (c ≡ c′) × (t ≡ t′) × (i ≡ i′)
-  freshens-once (freshened-1 f) (freshened-1 g) = (refl, refl, refl, refl, refl)
+  pub freshens-once : {k k′ : ℕ} {after after′ : Store} {i i′ : List ℕ} → Freshens st index k after i → Freshens st index k′ after′ i′
+      → (k ≡ k′) × (after ≡ after′) × (i ≡ i′)
+  freshens-once (freshened-1 f) (freshened-1 g) = (refl, refl, refl)
   freshens-once (freshened-1 f) (freshened-0 a) = absurd (f a)
   freshens-once (freshened-0 a) (freshened-1 g) = absurd (g a)
-  freshens-once (freshened-0 a) (freshened-0 b) = (refl, refl, refl, refl, refl)
+  freshens-once (freshened-0 a) (freshened-0 b) = (refl, refl, refl)
 
   module _ (places : List ℤ) (bools id : ℕ) where
     abbrev Out : ℕ → Bool → Type 0
-    Out k b = Hears nodes children cuts index places bools id k b
+    Out k b = Hears st index places bools id k b
 
     pub hears-once : {k k′ : ℕ} {b b′ : Bool} → Out k b → Out k′ b′ → (k ≡ k′) × (b ≡ b′)
     hears-once (heard-1 f) (heard-1 g) = (refl, refl)
@@ -105,20 +105,20 @@ module _ (nodes children : List ℕ) (cuts : List ℤ) (index : List ℕ) where
     hears-once (heard-3 r u s f) (heard-1 g) = absurd (g r)
     hears-once (heard-3 r u s f) (heard-2 r′ g) = absurd (g u s)
     hears-once (heard-3 r u s f) (heard-3 r′ u′ s′ g) = (refl, refl)
-    hears-once (heard-3 r u s f) (heard-5 r′ u′ s′ k g) = absurd (f (omega (arith, sound-once nodes children cuts index u u′ s s′)))
-    hears-once (heard-3 r u s f) (heard-0 r′ u′ s′ k p) = absurd (f (omega (arith, sound-once nodes children cuts index u u′ s s′)))
+    hears-once (heard-3 r u s f) (heard-5 r′ u′ s′ k g) = absurd (f (omega (arith, sound-once st index u u′ s s′)))
+    hears-once (heard-3 r u s f) (heard-0 r′ u′ s′ k p) = absurd (f (omega (arith, sound-once st index u u′ s s′)))
     hears-once (heard-5 r u s k f) (heard-1 g) = absurd (g r)
     hears-once (heard-5 r u s k f) (heard-2 r′ g) = absurd (g u s)
-    hears-once (heard-5 r u s k f) (heard-3 r′ u′ s′ g) = absurd (g (omega (arith, sound-once nodes children cuts index u u′ s s′)))
+    hears-once (heard-5 r u s k f) (heard-3 r′ u′ s′ g) = absurd (g (omega (arith, sound-once st index u u′ s s′)))
     hears-once (heard-5 r u s k f) (heard-5 r′ u′ s′ k′ g) = (refl, refl)
     hears-once (heard-5 r u s k f) (heard-0 r′ u′ s′ k′ p) = absurd (f p)
     hears-once (heard-0 r u s k p) (heard-1 g) = absurd (g r)
     hears-once (heard-0 r u s k p) (heard-2 r′ g) = absurd (g u s)
-    hears-once (heard-0 r u s k p) (heard-3 r′ u′ s′ g) = absurd (g (omega (arith, sound-once nodes children cuts index u u′ s s′)))
+    hears-once (heard-0 r u s k p) (heard-3 r′ u′ s′ g) = absurd (g (omega (arith, sound-once st index u u′ s s′)))
     hears-once (heard-0 r u s k p) (heard-5 r′ u′ s′ k′ g) = absurd (g p)
     hears-once (heard-0 r u s k p) (heard-0 r′ u′ s′ k′ p′) = (
       refl,
-      sym (ap (λ (α : ℕ → ℕ). value (held nodes children cuts u) α id) (spots-reading places bools p))
-          ∙ ap (λ (m : ℕ). value (held nodes children cuts m) (spots places bools) id) (sound-once nodes children cuts index u u′ s s′)
-          ∙ ap (λ (α : ℕ → ℕ). value (held nodes children cuts u′) α id) (spots-reading places bools p′),
+      sym (ap (λ (α : ℕ → ℕ). value (held st u) α id) (spots-reading places bools p))
+          ∙ ap (λ (m : ℕ). value (held st m) (spots places bools) id) (sound-once st index u u′ s s′)
+          ∙ ap (λ (α : ℕ → ℕ). value (held st u′) α id) (spots-reading places bools p′),
     )

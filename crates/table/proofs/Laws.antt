@@ -19,7 +19,7 @@ use mir.Val.{SFits, ofZ, toZ}
 use mir.ValLaws.{toZ-ofZ}
 use native.Mathlib.Numerals.{add-one}
 use Rattle.table.specs.Deciding.{Decides, holds, fails}
-use Rattle.table.specs.Layout.{level, cutAt, kidAt, countAt, firstAt, start}
+use Rattle.table.specs.Layout.{cutPosition, cutAt, kidAt, countAt, firstAt, start, Store}
 use Rattle.table.specs.Indexed.{hashTo, mix}
 use Rattle.table.specs.Lent.{SameRun, KidsStand, Blank, Rules, SoundLent}
 use Rattle.table.specs.Checking.{below, Down, here, there, Climbs, some, tally, Judges, sound, unsound}
@@ -69,17 +69,17 @@ off false x y e = refl
 off true x y e = absurd (clash e refl)
 
 -- below the lowest cut, above the highest, and between
-low : (z : ℤ) → ltZ z (negsuc 4294967295) ≡ true → level z ≡ 0
+low : (z : ℤ) → ltZ z (negsuc 4294967295) ≡ true → cutPosition z ≡ 0
 low (pos n) e = absurd (clash refl e)
 low (negsuc n) e = omega (arith, ltb-true 4294967295 n e)
 
-high : (z : ℤ) → ltZ (pos 4294967295) z ≡ true → level z ≡ 0
+high : (z : ℤ) → ltZ (pos 4294967295) z ≡ true → cutPosition z ≡ 0
 high (pos n) e = off (ltb n 4294967296) (n + 4294967297) 0 (le-ltb n 4294967296 (omega (arith, ltb-true 4294967295 n e)))
 high (negsuc n) e = absurd (clash refl e)
 
 pub record Mid (z : ℤ) : Type 0 where
-  pub sum : z +ℤ pos 4294967297 ≡ pos (level z)
-  pub small : level z < 8589934593
+  pub sum : z +ℤ pos 4294967297 ≡ pos (cutPosition z)
+  pub small : cutPosition z < 8589934593
 
 mid : (z : ℤ) → ltZ z (negsuc 4294967295) ≡ false → ltZ (pos 4294967295) z ≡ false → Mid z
 mid (pos n) l h =
@@ -95,27 +95,27 @@ module _ (z : ℤ) (f : SFits w64 z) where
   plain : toZ w64 (ofZ w64 z) ≡ z
   plain = toZ-ofZ w64 z f
 
-  pub level-low : ltZ (toZ w64 (ofZ w64 z)) (negsuc 4294967295) ≡ true → level z ≡ 0
-  level-low e = low z (subst (λ (y : ℤ). ltZ y (negsuc 4294967295) ≡ true) plain e)
+  pub cut-position-low : ltZ (toZ w64 (ofZ w64 z)) (negsuc 4294967295) ≡ true → cutPosition z ≡ 0
+  cut-position-low e = low z (subst (λ (y : ℤ). ltZ y (negsuc 4294967295) ≡ true) plain e)
 
-  pub level-high : ltZ (pos 4294967295) (toZ w64 (ofZ w64 z)) ≡ true → level z ≡ 0
-  level-high e = high z (subst (λ (y : ℤ). ltZ (pos 4294967295) y ≡ true) plain e)
+  pub cut-position-high : ltZ (pos 4294967295) (toZ w64 (ofZ w64 z)) ≡ true → cutPosition z ≡ 0
+  cut-position-high e = high z (subst (λ (y : ℤ). ltZ (pos 4294967295) y ≡ true) plain e)
 
   module _ (l : ltZ (toZ w64 (ofZ w64 z)) (negsuc 4294967295) ≡ false) (h : ltZ (pos 4294967295) (toZ w64 (ofZ w64 z)) ≡ false) where
-    pub level-mid : Mid z
-    level-mid = mid z (subst (λ (y : ℤ). ltZ y (negsuc 4294967295) ≡ false) plain l) (subst (λ (y : ℤ). ltZ (pos 4294967295) y ≡ false) plain h)
+    pub cut-position-mid : Mid z
+    cut-position-mid = mid z (subst (λ (y : ℤ). ltZ y (negsuc 4294967295) ≡ false) plain l) (subst (λ (y : ℤ). ltZ (pos 4294967295) y ≡ false) plain h)
 
-    sum : toZ w64 (ofZ w64 z) +ℤ pos 4294967297 ≡ pos (level z)
-    sum = ap (λ (y : ℤ). y +ℤ pos 4294967297) plain ∙ level-mid .sum
+    sum : toZ w64 (ofZ w64 z) +ℤ pos 4294967297 ≡ pos (cutPosition z)
+    sum = ap (λ (y : ℤ). y +ℤ pos 4294967297) plain ∙ cut-position-mid .sum
 
-    fits : SFits w64 (pos (level z))
-    fits = record { sfits = omega (arith, level-mid .small) }
+    fits : SFits w64 (pos (cutPosition z))
+    fits = record { sfits = omega (arith, cut-position-mid .small) }
 
-    pub level-fits : SFits w64 (toZ w64 (ofZ w64 z) +ℤ pos 4294967297)
-    level-fits = subst (SFits w64) (sym sum) fits
+    pub cut-position-fits : SFits w64 (toZ w64 (ofZ w64 z) +ℤ pos 4294967297)
+    cut-position-fits = subst (SFits w64) (sym sum) fits
 
-    pub level-sum : toZ w64 (ofZ w64 (toZ w64 (ofZ w64 z) +ℤ pos 4294967297)) ≡ pos (level z)
-    level-sum = ap (λ (s : ℤ). toZ w64 (ofZ w64 s)) sum ∙ toZ-ofZ w64 (pos (level z)) fits
+    pub cut-position-sum : toZ w64 (ofZ w64 (toZ w64 (ofZ w64 z) +ℤ pos 4294967297)) ≡ pos (cutPosition z)
+    cut-position-sum = ap (λ (s : ℤ). toZ w64 (ofZ w64 s)) sum ∙ toZ-ofZ w64 (pos (cutPosition z)) fits
 
 pub at : (xs : List ℕ) (a b : ℕ) → a ≡ b → getD xs a 0 ≡ getD xs b 0
 at xs a b e = ap (λ (i : ℕ). getD xs i 0) e
@@ -127,10 +127,10 @@ pub above-yes : {a b a' b' : ℕ} → a' ≡ a → b' ≡ b → a' < b' → a < 
 above-yes p q h = omega arith
 
 -- the next step of a definition that recurses on suc
-pub below-next : (cuts : List ℤ) (e j : ℕ) → below cuts e (j + 1) ≡ level (cutAt cuts (e + j))
+pub below-next : (cuts : List ℤ) (e j : ℕ) → below cuts e (j + 1) ≡ cutPosition (cutAt cuts (e + j))
 below-next cuts e j = ap (below cuts e) (add-one j)
 
-pub hash-next : (children : List ℕ) (cuts : List ℤ) (v e j : ℕ) → hashTo children cuts v e (j + 1) ≡ mix (hashTo children cuts v e j) (kidAt children (e + j)) (level (cutAt cuts (e + j)))
+pub hash-next : (children : List ℕ) (cuts : List ℤ) (v e j : ℕ) → hashTo children cuts v e (j + 1) ≡ mix (hashTo children cuts v e j) (kidAt children (e + j)) (cutPosition (cutAt cuts (e + j)))
 unfolding hashTo
 hash-next children cuts v e j = ap (hashTo children cuts v e) (add-one j)
 
@@ -169,8 +169,8 @@ start-up nodes n (suc u) h = go (eq-or-lt-of-le h) (λ l. start-up nodes n u l)
     go (inl q) rec = omega (arith, ap (start nodes) q)
     go (inr l) rec = let a : u + 1 ≡ suc u = omega arith in omega (arith, rec (omega arith), start-next nodes u, ap (start nodes) a)
 
-pub edges-before : {nodes children : List ℕ} {cuts : List ℤ} {n u : ℕ} → n < u → Rules nodes children cuts n → firstAt nodes n + countAt nodes n ≤ start nodes u
-edges-before {nodes} {n = n} {u = u} l r = let a : n + 1 ≤ u = omega arith in omega (arith, r .packed, start-next nodes n, start-up nodes (n + 1) u a)
+pub edges-before : {st : Store} {n u : ℕ} → n < u → Rules st n → firstAt (st .nodes) n + countAt (st .nodes) n ≤ start (st .nodes) u
+edges-before {st} {n = n} {u = u} l r = let a : n + 1 ≤ u = omega arith in omega (arith, r .packed, start-next (st .nodes) n, start-up (st .nodes) (n + 1) u a)
 
 -- Walks.
 module _ {index : List ℕ} {r : ℕ} where
@@ -278,7 +278,7 @@ module _ (z : ℤ) (f : SFits w64 z) where
   among-places l h = place-mid z (subst (λ (y : ℤ). ltZ y (negsuc 4294967296) ≡ false) (toZ-ofZ w64 z f) l) (subst (λ (y : ℤ). ltZ (pos 4294967295) y ≡ false) (toZ-ofZ w64 z f) h)
 
 -- what a check that answers no has found
-pub judged-no : {nodes children : List ℕ} {cuts : List ℤ} {index : List ℕ} {u e : ℕ} {b : Bool} → Judges nodes children cuts index u e b → b ≡ false → (u : ℕ) → SoundLent nodes children cuts index u → ⊥
+pub judged-no : {st : Store} {index : List ℕ} {u e : ℕ} {b : Bool} → Judges st index u e b → b ≡ false → (u : ℕ) → SoundLent st index u → ⊥
 judged-no (sound s q) e = absurd (clash e refl)
 judged-no (unsound x) e = x
 

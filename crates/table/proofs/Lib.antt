@@ -7,7 +7,7 @@ pub mod Whole
 pub mod Scan
 pub mod Bridge
 pub mod Determined
-pub mod Levels
+pub mod CutPositions
 pub mod Once
 pub mod Zeroed
 pub mod Hearing

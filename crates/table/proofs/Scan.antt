@@ -14,7 +14,7 @@ use lib.IntN.{ℤ}
 use Rattle.diagram.specs.Pieces.{last, cut, select}
 use Rattle.diagram.specs.Table.{Table, Assignment, signed, truth, value}
 use Rattle.ids.specs.Id.{TRUE, sign, under}
-use Rattle.table.specs.Layout.{varAt, countAt, firstAt, kidAt, cutAt, level}
+use Rattle.table.specs.Layout.{varAt, countAt, firstAt, kidAt, cutAt, cutPosition, Store}
 use Rattle.table.specs.Lent.{KidsStand}
 use Rattle.table.specs.Held.{edgesFrom, edgesAt, nodeAt, held}
 use Rattle.table.specs.Told.{bit}
@@ -22,13 +22,13 @@ use Rattle.table.specs.Checking.{spots, Next}
 use Rattle.diagram.proofs.Lookup as lookup
 
 module _ (children : List ℕ) (cuts : List ℤ) (p : ℕ) where
-  stop : (i m : ℕ) → p < level (cutAt cuts i) → select (edgesFrom children cuts i (suc m)) p ≡ kidAt children i
+  stop : (i m : ℕ) → p < cutPosition (cutAt cuts i) → select (edgesFrom children cuts i (suc m)) p ≡ kidAt children i
   unfolding edgesFrom
-  stop i m h = rw (lt-ltb p (level (cutAt cuts i)) h)
+  stop i m h = rw (lt-ltb p (cutPosition (cutAt cuts i)) h)
 
-  pass : (i m : ℕ) → level (cutAt cuts i) ≤ p → select (edgesFrom children cuts i (suc m)) p ≡ select (edgesFrom children cuts (suc i) m) p
+  pass : (i m : ℕ) → cutPosition (cutAt cuts i) ≤ p → select (edgesFrom children cuts i (suc m)) p ≡ select (edgesFrom children cuts (suc i) m) p
   unfolding edgesFrom
-  pass i m h = rw (le-ltb p (level (cutAt cuts i)) h)
+  pass i m h = rw (le-ltb p (cutPosition (cutAt cuts i)) h)
 
   -- the edges from j on, of those from e on with `end` cuts
   abbrev pub rest : ℕ → ℕ → ℕ → ℕ
@@ -37,10 +37,10 @@ module _ (children : List ℕ) (cuts : List ℤ) (p : ℕ) where
   pub rest-none : (e end : ℕ) → rest e end 0 ≡ select (edgesFrom children cuts e end) p
   rest-none e end = let a : e + 0 ≡ e = omega arith in let b : end - 0 ≡ end = omega arith in λ i. select (edgesFrom children cuts (a i) (b i)) p
 
-  pub rest-stop : (e end j : ℕ) → j < end → p < level (cutAt cuts (e + j)) → rest e end j ≡ kidAt children (e + j)
+  pub rest-stop : (e end j : ℕ) → j < end → p < cutPosition (cutAt cuts (e + j)) → rest e end j ≡ kidAt children (e + j)
   rest-stop e end j l h = let a : end - j ≡ suc (end - (j + 1)) = omega arith in ap (λ (m : ℕ). select (edgesFrom children cuts (e + j) m) p) a ∙ stop (e + j) (end - (j + 1)) h
 
-  pub rest-pass : (e end j : ℕ) → j < end → level (cutAt cuts (e + j)) ≤ p → rest e end j ≡ rest e end (j + 1)
+  pub rest-pass : (e end j : ℕ) → j < end → cutPosition (cutAt cuts (e + j)) ≤ p → rest e end j ≡ rest e end (j + 1)
   rest-pass e end j l h =
       let a : end - j ≡ suc (end - (j + 1)) = omega arith in
       let b : suc (e + j) ≡ e + (j + 1) = omega arith in
@@ -51,14 +51,14 @@ module _ (children : List ℕ) (cuts : List ℤ) (p : ℕ) where
   rest-end e end j q = let a : end - j ≡ 0 = omega arith in let b : e + j ≡ e + end = omega arith in λ i. select (edgesFrom children cuts (b i) (a i)) p
 
 module _ (children : List ℕ) (cuts : List ℤ) (places : List ℤ) (bools : ℕ) where
-  pub next-range : (v e n : ℕ) → v < 32 → select (edgesAt children cuts v e n) (spots places bools v) ≡ select (edgesFrom children cuts e (n - 1)) (level (cutAt places v))
+  pub next-range : (v e n : ℕ) → v < 32 → select (edgesAt children cuts v e n) (spots places bools v) ≡ select (edgesFrom children cuts e (n - 1)) (cutPosition (cutAt places v))
   unfolding edgesAt spots
   next-range v e n h = rw (lt-ltb v 32 h)
 
-  high : (v e n q : ℕ) → 32 ≤ v → 1 - q ≡ 0 → select (cond (ltb v 32) (edgesFrom children cuts e (n - 1)) (cut (kidAt children e) 1 (last (kidAt children (e + 1))))) (cond (ltb v 32) (level (cutAt places v)) (1 - q)) ≡ kidAt children e
+  high : (v e n q : ℕ) → 32 ≤ v → 1 - q ≡ 0 → select (cond (ltb v 32) (edgesFrom children cuts e (n - 1)) (cut (kidAt children e) 1 (last (kidAt children (e + 1))))) (cond (ltb v 32) (cutPosition (cutAt places v)) (1 - q)) ≡ kidAt children e
   high v e n q h z = rw (le-ltb v 32 h, z)
 
-  low : (v e n q : ℕ) → 32 ≤ v → 1 - q ≡ 1 → select (cond (ltb v 32) (edgesFrom children cuts e (n - 1)) (cut (kidAt children e) 1 (last (kidAt children (e + 1))))) (cond (ltb v 32) (level (cutAt places v)) (1 - q)) ≡ kidAt children (e + 1)
+  low : (v e n q : ℕ) → 32 ≤ v → 1 - q ≡ 1 → select (cond (ltb v 32) (edgesFrom children cuts e (n - 1)) (cut (kidAt children e) 1 (last (kidAt children (e + 1))))) (cond (ltb v 32) (cutPosition (cutAt places v)) (1 - q)) ≡ kidAt children (e + 1)
   low v e n q h z = rw (le-ltb v 32 h, z)
 
   pub next-high : (v e n : ℕ) → 32 ≤ v → bit bools (v - 32) ≡ 1 → select (edgesAt children cuts v e n) (spots places bools v) ≡ kidAt children e
@@ -78,9 +78,9 @@ module _ (children : List ℕ) (cuts : List ℤ) (places : List ℤ) (bools : �
 pub kid-earlier : {nodes children : List ℕ} {n v e count : ℕ} → KidsStand nodes children n v e count → (j : ℕ) → j < count → kidAt children (e + j) < n * 2 + 2
 kid-earlier k j l = ⊎-elim (λ h. omega arith) (λ h. omega (arith, h .0)) (k .stand j l)
 
-module _ (nodes children : List ℕ) (cuts : List ℤ) where
+module _ (st : Store) where
   abbrev table : ℕ → Table
-  table n = held nodes children cuts n
+  table n = held st n
 
   pub table-length : (n : ℕ) → length (table n) ≡ n
   unfolding held
@@ -94,18 +94,18 @@ module _ (nodes children : List ℕ) (cuts : List ℤ) where
   value-longer α n (suc k) id h =
       let a : suc k + n ≡ suc (k + n) = omega arith in
       let l = table-length (k + n) in
-      ap (λ (m : ℕ). value (table m) α id) a ∙ (lookup.value-old (nodeAt nodes children cuts (k + n)) (table (k + n)) α id (omega arith) ∙ value-longer α n k id h)
+      ap (λ (m : ℕ). value (table m) α id) a ∙ (lookup.value-old (nodeAt st (k + n)) (table (k + n)) α id (omega arith) ∙ value-longer α n k id h)
 
-  newest : (α : Assignment) (n : ℕ) → truth (table (suc n)) α (suc n) ≡ value (table n) α (select (edgesAt children cuts (varAt nodes n) (firstAt nodes n) (countAt nodes n)) (α (varAt nodes n)))
+  newest : (α : Assignment) (n : ℕ) → truth (table (suc n)) α (suc n) ≡ value (table n) α (select (edgesAt (st .children) (st .cuts) (varAt (st .nodes) n) (firstAt (st .nodes) n) (countAt (st .nodes) n)) (α (varAt (st .nodes) n)))
   unfolding held
-  newest α n = ap (λ (m : ℕ). truth (table (suc n)) α (suc m)) (sym (table-length n)) ∙ lookup.truth-new (nodeAt nodes children cuts n) (table n) α
+  newest α n = ap (λ (m : ℕ). truth (table (suc n)) α (suc m)) (sym (table-length n)) ∙ lookup.truth-new (nodeAt st n) (table n) α
 
-  own : (α : Assignment) (id n : ℕ) → id / 2 ≡ suc n → value (table (suc n)) α id ≡ signed id (value (table n) α (select (edgesAt children cuts (varAt nodes n) (firstAt nodes n) (countAt nodes n)) (α (varAt nodes n))))
+  own : (α : Assignment) (id n : ℕ) → id / 2 ≡ suc n → value (table (suc n)) α id ≡ signed id (value (table n) α (select (edgesAt (st .children) (st .cuts) (varAt (st .nodes) n) (firstAt (st .nodes) n) (countAt (st .nodes) n)) (α (varAt (st .nodes) n))))
   unfolding value
   own α id n g = ap (λ (m : ℕ). signed id (truth (table (suc n)) α m)) g ∙ ap (signed id) (newest α n)
 
   -- an id of node n says what the child does, by its sign
-  pub value-child : (α : Assignment) (u id c : ℕ) → 2 ≤ id → id / 2 ≤ u → Next nodes children cuts α (id / 2 - 1) c → value (table u) α id ≡ signed id (value (table u) α c)
+  pub value-child : (α : Assignment) (u id c : ℕ) → 2 ≤ id → id / 2 ≤ u → Next st α (id / 2 - 1) c → value (table u) α id ≡ signed id (value (table u) α c)
   value-child α u id c a b x =
       let n = id / 2 - 1 in
       let k = u - (id / 2) in
@@ -117,13 +117,13 @@ module _ (nodes children : List ℕ) (cuts : List ℤ) where
       ∙ (own α id n g ∙ ap (signed id) (ap (value (table n) α) (sym (x .right)) ∙ (sym (value-longer α n (k + 1) c early) ∙ ap (λ (m : ℕ). value (table m) α c) f))))
 
   -- one step of the walk: from an id to the child that the reading chooses, seen from that id
-  pub step : {α : Assignment} {u id w c r : ℕ} → w ≡ id → 2 ≤ id → id / 2 ≤ u → Next nodes children cuts α (w / 2 - 1) c → r ≡ under (sign id) c → value (table u) α id ≡ value (table u) α r
+  pub step : {α : Assignment} {u id w c r : ℕ} → w ≡ id → 2 ≤ id → id / 2 ≤ u → Next st α (w / 2 - 1) c → r ≡ under (sign id) c → value (table u) α id ≡ value (table u) α r
   step {α} {u} {id} {w} {c} {r} e a b x q = value-child α u id c a b (rw e at x) ∙ sym (ap (value (table u) α) q ∙ lookup.value-under (table u) α (sign id) c)
 
   value-true : (α : Assignment) (u : ℕ) → value (table u) α 0 ≡ true
   unfolding held value truth
   value-true α zero = refl
-  value-true α (suc u) = let l = table-length u in lookup.value-old (nodeAt nodes children cuts u) (table u) α 0 (omega arith) ∙ value-true α u
+  value-true α (suc u) = let l = table-length u in lookup.value-old (nodeAt st u) (table u) α 0 (omega arith) ∙ value-true α u
 
   -- the end of the walk
   pub value-terminal : (α : Assignment) (u id : ℕ) → id < 2 → value (table u) α id ≡ eqb id TRUE

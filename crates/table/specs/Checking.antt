@@ -8,32 +8,33 @@ use lib.IntN.{ℤ, pos}
 use Rattle.diagram.specs.Pieces.{select}
 use Rattle.diagram.specs.Table.{firstBoolean, isRange, Assignment}
 use Rattle.table.specs.Deciding.{Decides}
-use Rattle.table.specs.Layout.{varAt, countAt, firstAt, kidAt, cutAt, room, start, level}
+use Rattle.table.specs.Layout.{varAt, countAt, firstAt, kidAt, cutAt, room, start, cutPosition, Store}
 use Rattle.table.specs.Indexed.{hashTo, bucketAt}
-use Rattle.table.specs.Lent.{KidsStand, Rules, SameRecord, SoundLent}
+use Rattle.table.specs.Lent.{KidsStand, Rules, SameRecord, SoundRecords, SoundLent}
+use Rattle.ids.specs.Index.{KnownTo}
 use Rattle.table.specs.Held.{edgesFrom, edgesAt}
 use Rattle.table.specs.Told.{bit}
 
 -- What cut j of a node has to be above: the cut before it; the first has only to be a cut.
 abbrev pub below : List ℤ → ℕ → ℕ → ℕ
 below cuts e zero = 0
-below cuts e (suc j) = level (cutAt cuts (e + j))
+below cuts e (suc j) = cutPosition (cutAt cuts (e + j))
 
 -- `Cuts`, by positions.
 pub record Climbs (cuts : List ℤ) (e count : ℕ) : Type 0 where
-  pub rise : (j : ℕ) → j + 1 < count → below cuts e j < level (cutAt cuts (e + j))
+  pub rise : (j : ℕ) → j + 1 < count → below cuts e j < cutPosition (cutAt cuts (e + j))
   pub last : cutAt cuts (e + (count - 1)) ≡ pos 0
 
 -- One pass over a node's edges: whether they keep the rules, that for cuts being its kind's, and then their hash.
-pub record Passes (nodes children : List ℕ) (cuts : List ℤ) (n v e count : ℕ) (rule : Type 0) (ok : Bool) (hash : ℕ) : Type 0 where
-  pub decides : Decides (KidsStand nodes children n v e count × rule) ok
-  pub hashed : ok ≡ true → hash ≡ hashTo children cuts v e count
+pub record Passes (st : Store) (n v e count : ℕ) (rule : Type 0) (ok : Bool) (hash : ℕ) : Type 0 where
+  pub decides : Decides (KidsStand (st .nodes) (st .children) n v e count × rule) ok
+  pub hashed : ok ≡ true → hash ≡ hashTo (st .children) (st .cuts) v e count
   pub small : hash < 2 ^ 32
 
 -- Whether record n keeps the rules, and then its hash.
-pub record Keeps (nodes children : List ℕ) (cuts : List ℤ) (n : ℕ) (ok : Bool) (hash : ℕ) : Type 0 where
-  pub decides : Decides (Rules nodes children cuts n) ok
-  pub hashed : ok ≡ true → hash ≡ hashTo children cuts (varAt nodes n) (firstAt nodes n) (countAt nodes n)
+pub record Keeps (st : Store) (n : ℕ) (ok : Bool) (hash : ℕ) : Type 0 where
+  pub decides : Decides (Rules st n) ok
+  pub hashed : ok ≡ true → hash ≡ hashTo (st .children) (st .cuts) (varAt (st .nodes) n) (firstAt (st .nodes) n) (countAt (st .nodes) n)
   pub small : hash < 2 ^ 32
 
 -- How many of the first n words are not 0.
@@ -55,32 +56,38 @@ pub data Down (index : List ℕ) (r : ℕ) : ℕ → ℕ → Type 0 where
   here : {x : ℕ} → Down index r x x
   there : {k y : ℕ} → getD index (r + k) 0 ≤ k → Down index r (getD index (r + k) 0) y → Down index r (suc k) y
 
-pub record Linked (nodes children : List ℕ) (cuts : List ℤ) (index : List ℕ) (n : ℕ) : Type 0 where
-  pub before : getD index (room nodes + n) 0 ≤ n
-  pub reached : Down index (room nodes) (getD index (bucketAt nodes children cuts n) 0) (suc n)
+pub record Linked (st : Store) (index : List ℕ) (n : ℕ) : Type 0 where
+  pub before : getD index (room (st .nodes) + n) 0 ≤ n
+  pub reached : Down index (room (st .nodes)) (getD index (bucketAt st n) 0) (suc n)
 
 -- Record n extends the table of the n records before it.
-pub record ExtendsAt (nodes children : List ℕ) (cuts : List ℤ) (index : List ℕ) (n : ℕ) : Type 0 where
-  pub rules : Rules nodes children cuts n
-  pub linked : Linked nodes children cuts index n
-  pub single : (m : ℕ) → m < n → SameRecord nodes children cuts m n → ⊥
+pub record ExtendsAt (st : Store) (index : List ℕ) (n : ℕ) : Type 0 where
+  pub rules : Rules st n
+  pub linked : Linked st index n
+  pub single : (m : ℕ) → m < n → SameRecord st m n → ⊥
 
 -- Nothing lies behind u nodes and e edges, and the index has u words that are not 0.
-pub record Rest (nodes children : List ℕ) (cuts : List ℤ) (index : List ℕ) (u e : ℕ) : Type 0 where
-  pub no-node : (i : ℕ) → u * 4 ≤ i → getD nodes i 0 ≡ 0
-  pub no-child : (i : ℕ) → e ≤ i → kidAt children i ≡ 0
-  pub no-cut : (i : ℕ) → e ≤ i → cutAt cuts i ≡ pos 0
-  pub no-next : (i : ℕ) → room nodes + u ≤ i → getD index i 0 ≡ 0
-  pub tallied : Tallied index (room nodes + u) u
+pub record Rest (st : Store) (index : List ℕ) (u e : ℕ) : Type 0 where
+  pub no-node : (i : ℕ) → u * 4 ≤ i → getD (st .nodes) i 0 ≡ 0
+  pub no-child : (i : ℕ) → e ≤ i → kidAt (st .children) i ≡ 0
+  pub no-cut : (i : ℕ) → e ≤ i → cutAt (st .cuts) i ≡ pos 0
+  pub no-next : (i : ℕ) → room (st .nodes) + u ≤ i → getD index i 0 ≡ 0
+  pub tallied : Tallied index (room (st .nodes) + u) u
 
 -- The check's answer: sound with that many nodes and edges, or not sound whatever the number of nodes.
-pub data Judges (nodes children : List ℕ) (cuts : List ℤ) (index : List ℕ) (u e : ℕ) : Bool → Type 0 where
-  sound : SoundLent nodes children cuts index u → e ≡ start nodes u → Judges nodes children cuts index u e true
-  unsound : ((u : ℕ) → SoundLent nodes children cuts index u → ⊥) → Judges nodes children cuts index u e false
+pub data Judges (st : Store) (index : List ℕ) (u e : ℕ) : Bool → Type 0 where
+  sound : SoundLent st index u → e ≡ start (st .nodes) u → Judges st index u e true
+  unsound : ((u : ℕ) → SoundLent st index u → ⊥) → Judges st index u e false
 
 -- A reading as a position for each variable.
 unfoldable pub spots : List ℤ → ℕ → Assignment
-spots places bools v = cond (isRange v) (level (cutAt places v)) (1 - bit bools (v - firstBoolean))
+spots places bools v = cond (isRange v) (cutPosition (cutAt places v)) (1 - bit bools (v - firstBoolean))
+
+-- Sound records, and an id that is known where so many are used.
+pub record Legible (st : Store) (id : ℕ) : Type 0 where
+  pub used : ℕ
+  pub records : SoundRecords st used
+  pub known : KnownTo used id
 
 -- The child that a scan of the edges chooses,
 pub record Chosen (children : List ℕ) (cuts : List ℤ) (e count p r : ℕ) : Type 0 where
@@ -88,6 +95,6 @@ pub record Chosen (children : List ℕ) (cuts : List ℤ) (e count p r : ℕ) : 
   pub among : (b : ℕ) → ((j : ℕ) → j < count → kidAt children (e + j) < b) → r < b
 
 -- and that node n has there.
-pub record Next (nodes children : List ℕ) (cuts : List ℤ) (α : Assignment) (n r : ℕ) : Type 0 where
-  pub right : r ≡ select (edgesAt children cuts (varAt nodes n) (firstAt nodes n) (countAt nodes n)) (α (varAt nodes n))
+pub record Next (st : Store) (α : Assignment) (n r : ℕ) : Type 0 where
+  pub right : r ≡ select (edgesAt (st .children) (st .cuts) (varAt (st .nodes) n) (firstAt (st .nodes) n) (countAt (st .nodes) n)) (α (varAt (st .nodes) n))
   pub earlier : r < n * 2 + 2

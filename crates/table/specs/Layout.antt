@@ -16,6 +16,17 @@ mostNodes = 4096
 abbrev pub mostEdgeRoom : ℕ
 mostEdgeRoom = 16384
 
+-- The words that hold the nodes of one table: the records, the children of their edges, and their cuts. The index stands beside them, since
+-- they determine it.
+pub record Store : Type 0 where
+  pub nodes : List ℕ
+  pub children : List ℕ
+  pub cuts : List ℤ
+
+-- The same, of lists in this order.
+abbrev pub store : List ℕ → List ℕ → List ℤ → Store
+store nodes children cuts = record { nodes = nodes; children = children; cuts = cuts }
+
 -- The words of record n: variable, edge count, first edge, and a word that is kept for later.
 abbrev pub varAt : List ℕ → ℕ → ℕ
 varAt nodes n = getD nodes (n * 4) 0
@@ -56,6 +67,6 @@ pub record Lengths (nodes children cuts index : ℕ) : Type 0 where
   pub indexed : index ≡ nodes / 4 * 2
 
 -- A stored cut by its position, from 1 to 2^33, and 0 for a number that is no cut.
-abbrev pub level : ℤ → ℕ
-level (pos n) = cond (ltb n (2 ^ 32)) (position (pos n)) 0
-level (negsuc n) = position (negsuc n)
+abbrev pub cutPosition : ℤ → ℕ
+cutPosition (pos n) = cond (ltb n (2 ^ 32)) (position (pos n)) 0
+cutPosition (negsuc n) = position (negsuc n)

@@ -10,8 +10,8 @@ use Rattle.ids.specs.Id.{sign, ref}
 use Rattle.ranges.specs.Line.{Cut}
 use Rattle.diagram.specs.Table.{variables, firstBoolean}
 use Rattle.diagram.specs.Room.{mostEdges}
-use Rattle.table.specs.Layout.{varAt, countAt, firstAt, spareAt, kidAt, cutAt, room, start}
-use Rattle.table.specs.Indexed.{bucketAt, LastIn}
+use Rattle.table.specs.Layout.{varAt, countAt, firstAt, spareAt, kidAt, cutAt, room, start, Store}
+use Rattle.table.specs.Indexed.{bucketAt, Indexed}
 
 -- "Each child is a terminal, or an earlier node whose variable is later in the order."
 abbrev pub Stands : List ℕ → ℕ → ℕ → ℕ → Type 0
@@ -34,23 +34,23 @@ pub record Blank (cuts : List ℤ) (e : ℕ) : Type 0 where
   pub low : cutAt cuts (e + 1) ≡ pos 0
 
 -- Record n by itself and against the records before it.
-pub record Rules (nodes children : List ℕ) (cuts : List ℤ) (n : ℕ) : Type 0 where
-  pub known : varAt nodes n < variables
+pub record Rules (st : Store) (n : ℕ) : Type 0 where
+  pub known : varAt (st .nodes) n < variables
   -- "a range node has 2 to 64 edges"
-  pub many : 2 ≤ countAt nodes n
-  pub most : countAt nodes n ≤ mostEdges
+  pub many : 2 ≤ countAt (st .nodes) n
+  pub most : countAt (st .nodes) n ≤ mostEdges
   -- "a boolean node has two edges"
-  pub two : firstBoolean ≤ varAt nodes n → countAt nodes n ≡ 2
+  pub two : firstBoolean ≤ varAt (st .nodes) n → countAt (st .nodes) n ≡ 2
   -- the word that is kept for later has no use yet
-  pub spare : spareAt nodes n ≡ 0
+  pub spare : spareAt (st .nodes) n ≡ 0
   -- "edges of nodes follow one another in node order without a gap"
-  pub packed : firstAt nodes n ≡ start nodes n
-  pub inside : firstAt nodes n + countAt nodes n ≤ length children
+  pub packed : firstAt (st .nodes) n ≡ start (st .nodes) n
+  pub inside : firstAt (st .nodes) n + countAt (st .nodes) n ≤ length (st .children)
   -- "the first child is never complemented"
-  pub plain : sign (kidAt children (firstAt nodes n)) ≡ 0
-  pub edges : KidsStand nodes children n (varAt nodes n) (firstAt nodes n) (countAt nodes n)
-  pub ranges : varAt nodes n < firstBoolean → Cuts cuts (firstAt nodes n) (countAt nodes n)
-  pub booleans : firstBoolean ≤ varAt nodes n → Blank cuts (firstAt nodes n)
+  pub plain : sign (kidAt (st .children) (firstAt (st .nodes) n)) ≡ 0
+  pub edges : KidsStand (st .nodes) (st .children) n (varAt (st .nodes) n) (firstAt (st .nodes) n) (countAt (st .nodes) n)
+  pub ranges : varAt (st .nodes) n < firstBoolean → Cuts (st .cuts) (firstAt (st .nodes) n) (countAt (st .nodes) n)
+  pub booleans : firstBoolean ≤ varAt (st .nodes) n → Blank (st .cuts) (firstAt (st .nodes) n)
 
 -- Two runs of edges with the same children and cuts,
 pub record SameRun (children : List ℕ) (cuts : List ℤ) (a b count : ℕ) : Type 0 where
@@ -58,23 +58,23 @@ pub record SameRun (children : List ℕ) (cuts : List ℤ) (a b count : ℕ) : T
   pub cut : (j : ℕ) → j < count → cutAt cuts (a + j) ≡ cutAt cuts (b + j)
 
 -- and two records with "the same variable and edges".
-pub record SameRecord (nodes children : List ℕ) (cuts : List ℤ) (m n : ℕ) : Type 0 where
-  pub variable : varAt nodes m ≡ varAt nodes n
-  pub count : countAt nodes m ≡ countAt nodes n
-  pub edges : SameRun children cuts (firstAt nodes m) (firstAt nodes n) (countAt nodes n)
+pub record SameRecord (st : Store) (m n : ℕ) : Type 0 where
+  pub variable : varAt (st .nodes) m ≡ varAt (st .nodes) n
+  pub count : countAt (st .nodes) m ≡ countAt (st .nodes) n
+  pub edges : SameRun (st .children) (st .cuts) (firstAt (st .nodes) m) (firstAt (st .nodes) n) (countAt (st .nodes) n)
 
--- A sound table that uses u records.
-pub record SoundLent (nodes children : List ℕ) (cuts : List ℤ) (index : List ℕ) (u : ℕ) : Type 0 where
-  pub fits : u ≤ room nodes
-  pub rules : (n : ℕ) → n < u → Rules nodes children cuts n
+-- The records of a sound table that uses u of them, with their edges: every bullet but the last.
+pub record SoundRecords (st : Store) (u : ℕ) : Type 0 where
+  pub fits : u ≤ room (st .nodes)
+  pub rules : (n : ℕ) → n < u → Rules st n
   -- "no two nodes have the same variable and edges"
-  pub single : (m n : ℕ) → m < n → n < u → SameRecord nodes children cuts m n → ⊥
+  pub single : (m n : ℕ) → m < n → n < u → SameRecord st m n → ⊥
   -- "unused records are zero"
-  pub no-node : (i : ℕ) → u * 4 ≤ i → getD nodes i 0 ≡ 0
-  pub no-child : (i : ℕ) → start nodes u ≤ i → kidAt children i ≡ 0
-  pub no-cut : (i : ℕ) → start nodes u ≤ i → cutAt cuts i ≡ pos 0
-  -- "the index is what the node records, taken in order, determine": for each bucket its last node, for each node the last before it
-  -- in its bucket, each plus one, and nothing else
-  pub heads : (b : ℕ) → b < room nodes → LastIn (bucketAt nodes children cuts) b u (getD index b 0)
-  pub nexts : (n : ℕ) → n < u → LastIn (bucketAt nodes children cuts) (bucketAt nodes children cuts n) n (getD index (room nodes + n) 0)
-  pub no-next : (i : ℕ) → room nodes + u ≤ i → getD index i 0 ≡ 0
+  pub no-node : (i : ℕ) → u * 4 ≤ i → getD (st .nodes) i 0 ≡ 0
+  pub no-child : (i : ℕ) → start (st .nodes) u ≤ i → kidAt (st .children) i ≡ 0
+  pub no-cut : (i : ℕ) → start (st .nodes) u ≤ i → cutAt (st .cuts) i ≡ pos 0
+
+-- A sound table that uses u records: "the index is what the node records, taken in order, determine".
+pub record SoundLent (st : Store) (index : List ℕ) (u : ℕ) : Type 0 where
+  pub records : SoundRecords st u
+  pub indexed : Indexed (room (st .nodes)) (bucketAt st) index u

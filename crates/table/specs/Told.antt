@@ -13,7 +13,7 @@ use Rattle.ids.specs.Index.{KnownTo}
 use Rattle.ranges.specs.Line.{Place}
 use Rattle.diagram.specs.Table.{firstBoolean, isRange}
 use Rattle.diagram.specs.Reading.{Reading, says}
-use Rattle.table.specs.Layout.{cutAt, start, Lengths}
+use Rattle.table.specs.Layout.{cutAt, start, Lengths, Store, store}
 use Rattle.table.specs.Lent.{SoundLent}
 use Rattle.table.specs.Held.{held}
 
@@ -34,24 +34,24 @@ abbrev pub beyondPlaces : ℕ
 beyondPlaces = 5
 
 -- A lent table as the calls get it: its lengths allowed,
-abbrev pub Allowed : List ℕ → List ℕ → List ℤ → List ℕ → Type 0
-Allowed nodes children cuts index = Lengths (length nodes) (length children) (length cuts) (length index)
+abbrev pub Allowed : Store → List ℕ → Type 0
+Allowed st index = Lengths (length (st .nodes)) (length (st .children)) (length (st .cuts)) (length index)
 
 -- and sound with no number of records.
-abbrev pub Unsound : List ℕ → List ℕ → List ℤ → List ℕ → Type 0
-Unsound nodes children cuts index = (u : ℕ) → SoundLent nodes children cuts index u → ⊥
+abbrev pub Unsound : Store → List ℕ → Type 0
+Unsound st index = (u : ℕ) → SoundLent st index u → ⊥
 
 -- The check of a table: its number, and the used counts of a sound one. It changes nothing.
-pub data Checks (nodes children : List ℕ) (cuts : List ℤ) (index : List ℕ) : ℕ → ℕ → ℕ → Type 0 where
-  checked-1 : (Allowed nodes children cuts index → ⊥) → Checks nodes children cuts index wrongRoom 0 0
-  checked-2 : Allowed nodes children cuts index → Unsound nodes children cuts index → Checks nodes children cuts index notSound 0 0
-  checked-0 : Allowed nodes children cuts index → (u : ℕ) → SoundLent nodes children cuts index u → Checks nodes children cuts index done u (start nodes u)
+pub data Checks (st : Store) (index : List ℕ) : ℕ → ℕ → ℕ → Type 0 where
+  checked-1 : (Allowed st index → ⊥) → Checks st index wrongRoom 0 0
+  checked-2 : Allowed st index → Unsound st index → Checks st index notSound 0 0
+  checked-0 : Allowed st index → (u : ℕ) → SoundLent st index u → Checks st index done u (start (st .nodes) u)
 
 -- Making an empty table "in lent room, whatever the room held": every word is zero after it, or every word is as it was.
-pub data Freshens (nodes children : List ℕ) (cuts : List ℤ) (index : List ℕ) : ℕ → List ℕ → List ℕ → List ℤ → List ℕ → Type 0 where
-  freshened-1 : (Allowed nodes children cuts index → ⊥) → Freshens nodes children cuts index wrongRoom nodes children cuts index
-  freshened-0 : Allowed nodes children cuts index
-      → Freshens nodes children cuts index done (replicate (length nodes) 0) (replicate (length children) 0) (replicate (length cuts) (pos 0)) (replicate (length index) 0)
+pub data Freshens (st : Store) (index : List ℕ) : ℕ → Store → List ℕ → Type 0 where
+  freshened-1 : (Allowed st index → ⊥) → Freshens st index wrongRoom st index
+  freshened-0 : Allowed st index
+      → Freshens st index done (store (replicate (length (st .nodes)) 0) (replicate (length (st .children)) 0) (replicate (length (st .cuts)) (pos 0))) (replicate (length index) 0)
 
 -- "32 places and 32 booleans": a list of 32 places, and the bits of a number.
 abbrev pub Places : List ℤ → Type 0
@@ -72,16 +72,16 @@ readingOf places bools ok = record {
     placed v false f = (leZ-yes tt, leZ-yes tt)
 
 -- What a reading is lent: a table of allowed lengths, and 32 places.
-abbrev pub Asked : List ℕ → List ℕ → List ℤ → List ℕ → List ℤ → Type 0
-Asked nodes children cuts index places = Allowed nodes children cuts index × (length places ≡ firstBoolean)
+abbrev pub AllowedReading : Store → List ℕ → List ℤ → Type 0
+AllowedReading st index places = Allowed st index × (length places ≡ firstBoolean)
 
 -- Reading an id: the number, and the answer beside 0. It changes nothing.
-pub data Hears (nodes children : List ℕ) (cuts : List ℤ) (index : List ℕ) (places : List ℤ) (bools id : ℕ) : ℕ → Bool → Type 0 where
-  heard-1 : (Asked nodes children cuts index places → ⊥) → Hears nodes children cuts index places bools id wrongRoom false
-  heard-2 : Asked nodes children cuts index places → Unsound nodes children cuts index → Hears nodes children cuts index places bools id notSound false
-  heard-3 : Asked nodes children cuts index places → (u : ℕ) → SoundLent nodes children cuts index u → (KnownTo u id → ⊥)
-      → Hears nodes children cuts index places bools id unknownId false
-  heard-5 : Asked nodes children cuts index places → (u : ℕ) → SoundLent nodes children cuts index u → KnownTo u id → (Places places → ⊥)
-      → Hears nodes children cuts index places bools id beyondPlaces false
-  heard-0 : Asked nodes children cuts index places → (u : ℕ) → SoundLent nodes children cuts index u → KnownTo u id → (ok : Places places)
-      → Hears nodes children cuts index places bools id done (says (held nodes children cuts u) (readingOf places bools ok) id)
+pub data Hears (st : Store) (index : List ℕ) (places : List ℤ) (bools id : ℕ) : ℕ → Bool → Type 0 where
+  heard-1 : (AllowedReading st index places → ⊥) → Hears st index places bools id wrongRoom false
+  heard-2 : AllowedReading st index places → Unsound st index → Hears st index places bools id notSound false
+  heard-3 : AllowedReading st index places → (u : ℕ) → SoundLent st index u → (KnownTo u id → ⊥)
+      → Hears st index places bools id unknownId false
+  heard-5 : AllowedReading st index places → (u : ℕ) → SoundLent st index u → KnownTo u id → (Places places → ⊥)
+      → Hears st index places bools id beyondPlaces false
+  heard-0 : AllowedReading st index places → (u : ℕ) → SoundLent st index u → KnownTo u id → (ok : Places places)
+      → Hears st index places bools id done (says (held st u) (readingOf places bools ok) id)

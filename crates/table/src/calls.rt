@@ -3,7 +3,7 @@
 use super::fresh::zero_cuts;
 use super::fresh::zero_words;
 use super::limits::FIRST_BOOLEAN;
-use super::read::places_ok;
+use super::read::are_places;
 use super::read::reads;
 use super::sound::judge;
 use super::told::BEYOND_PLACES;
@@ -17,10 +17,11 @@ use super::words::lengths_allowed;
 use super::words::wide;
 use ids::NodeId;
 ghost use Rattle.table.specs.Told.{Checks, Freshens, Hears};
+ghost use Rattle.table.specs.Layout.{store};
 
 // Whether the table is sound: 0 with its used counts, or 1 or 2.
 pub fn check(nodes: &[u32], children: &[u32], cuts: &[i64], index: &[u32]) -> Checked
-    ensures { λ r. ⌜ Checks (now (nodes .entry)) (now (children .entry)) (now (cuts .entry)) (now (index .entry)) (r .number) (r .nodes) (r .edges) ⌝ }
+    ensures { λ r. ⌜ Checks (store (now (nodes .entry)) (now (children .entry)) (now (cuts .entry))) (now (index .entry)) (r .number) (r .nodes) (r .edges) ⌝ }
 {
     if !lengths_allowed(nodes.len(), children.len(), cuts.len(), index.len()) {
         return Checked {
@@ -46,7 +47,7 @@ pub fn check(nodes: &[u32], children: &[u32], cuts: &[i64], index: &[u32]) -> Ch
 
 // Makes an empty table in the lent room, whatever it held: 0, or 1 where a length is not allowed.
 pub fn fresh(nodes: &mut [u32], children: &mut [u32], cuts: &mut [i64], index: &mut [u32]) -> u32
-    ensures { λ r. ⌜ Freshens (now (nodes .entry)) (now (children .entry)) (now (cuts .entry)) (now (index .entry)) r (now (nodes .exit)) (now (children .exit)) (now (cuts .exit)) (now (index .exit)) ⌝ }
+    ensures { λ r. ⌜ Freshens (store (now (nodes .entry)) (now (children .entry)) (now (cuts .entry))) (now (index .entry)) r (store (now (nodes .exit)) (now (children .exit)) (now (cuts .exit))) (now (index .exit)) ⌝ }
 {
     if !lengths_allowed(nodes.len(), children.len(), cuts.len(), index.len()) {
         return WRONG_ROOM;
@@ -68,7 +69,7 @@ pub fn evaluate(
     bools: u32,
     id: NodeId,
 ) -> Told
-    ensures { λ r. ⌜ Hears (now (nodes .entry)) (now (children .entry)) (now (cuts .entry)) (now (index .entry)) (now (places .entry)) bools (id .0) (r .number) (r .yes) ⌝ }
+    ensures { λ r. ⌜ Hears (store (now (nodes .entry)) (now (children .entry)) (now (cuts .entry))) (now (index .entry)) (now (places .entry)) bools (id .0) (r .number) (r .yes) ⌝ }
 {
     if places.len() != FIRST_BOOLEAN {
         return Told {
@@ -89,12 +90,12 @@ pub fn evaluate(
             yes: false,
         };
     }
-    if !places_ok(places) {
+    if !are_places(places) {
         return Told {
             number: BEYOND_PLACES,
             yes: false,
         };
     }
-    let yes = reads(nodes, children, cuts, places, wide(bools), c.nodes, id);
+    let yes = reads(nodes, children, cuts, places, wide(bools), id);
     Told { number: DONE, yes }
 }

@@ -4,15 +4,16 @@ ghost use Prim.Native.Nat.{ℕ, suc, _+_, _*_, _/_, _<_, _≤_};
 ghost use lib.ListN.{length, getD};
 ghost use Rattle.table.specs.Deciding.{Decides};
 ghost use Rattle.diagram.specs.Room.{mostEdges};
-ghost use Rattle.table.specs.Layout.{mostNodes, room};
+ghost use Rattle.table.specs.Layout.{mostNodes, room, store};
 ghost use Rattle.table.specs.Indexed.{mix, bucketAt, hashTo};
 ghost use Rattle.table.specs.Lent.{Rules, SameRun, SameRecord};
 ghost use Rattle.table.specs.Checking.{Down};
+use super::limits::RECORD_WORDS;
 use super::words::child_at;
 use super::words::count_of;
+use super::words::cut_position_at;
 use super::words::equal_at;
 use super::words::first_of;
-use super::words::level_at;
 use super::words::var_of;
 use super::words::word;
 
@@ -33,7 +34,7 @@ pub fn hash_of(children: &[u32], cuts: &[i64], v: usize, e: usize, count: usize)
     let mut j = 0;
     while j < count {
         let c = child_at(children, e + j);
-        let k = level_at(cuts, e + j);
+        let k = cut_position_at(cuts, e + j);
         h = mixed(h, c, k);
         j += 1;
     }
@@ -87,8 +88,8 @@ pub fn same_edges(children: &[u32], cuts: &[i64], a: usize, b: usize, count: usi
 
 // Whether nodes m and n have the same variable and edges.
 pub fn same(nodes: &[u32], children: &[u32], cuts: &[i64], m: usize, n: usize) -> bool
-    requires { ⌜ (m * 4 + 4 ≤ length (now nodes)) × (n * 4 + 4 ≤ length (now nodes)) × (length (now cuts) ≡ length (now children)) × (Rules (now nodes) (now children) (now cuts) m) × (Rules (now nodes) (now children) (now cuts) n) ⌝ }
-    ensures { λ r. ⌜ Decides (SameRecord (now (nodes .entry)) (now (children .entry)) (now (cuts .entry)) m n) r ⌝ }
+    requires { ⌜ (m * 4 + 4 ≤ length (now nodes)) × (n * 4 + 4 ≤ length (now nodes)) × (length (now cuts) ≡ length (now children)) × (Rules (store (now nodes) (now children) (now cuts)) m) × (Rules (store (now nodes) (now children) (now cuts)) n) ⌝ }
+    ensures { λ r. ⌜ Decides (SameRecord (store (now (nodes .entry)) (now (children .entry)) (now (cuts .entry))) m n) r ⌝ }
 {
     if var_of(nodes, m) != var_of(nodes, n) {
         return false;
@@ -104,10 +105,10 @@ pub fn same(nodes: &[u32], children: &[u32], cuts: &[i64], m: usize, n: usize) -
 
 // Whether no node before n is the same: only those of its bucket can be.
 pub fn alone(nodes: &[u32], children: &[u32], cuts: &[i64], index: &[u32], n: usize) -> bool
-    requires { ⌜ (n * 4 + 4 ≤ length (now nodes)) × (length (now cuts) ≡ length (now children)) × (length (now index) ≡ room (now nodes) * 2) × ((m : ℕ) → m < n + 1 → Rules (now nodes) (now children) (now cuts) m) × ((m : ℕ) → m < n + 1 → getD (now index) (room (now nodes) + m) 0 ≤ m) × ((k : ℕ) → k < n → bucketAt (now nodes) (now children) (now cuts) k ≡ bucketAt (now nodes) (now children) (now cuts) n → Down (now index) (room (now nodes)) (getD (now index) (room (now nodes) + n) 0) (suc k)) ⌝ }
-    ensures { λ r. ⌜ Decides ((m : ℕ) → m < n → SameRecord (now (nodes .entry)) (now (children .entry)) (now (cuts .entry)) m n → ⊥) r ⌝ }
+    requires { ⌜ (n * 4 + 4 ≤ length (now nodes)) × (length (now cuts) ≡ length (now children)) × (length (now index) ≡ room (now nodes) * 2) × ((m : ℕ) → m < n + 1 → Rules (store (now nodes) (now children) (now cuts)) m) × ((m : ℕ) → m < n + 1 → getD (now index) (room (now nodes) + m) 0 ≤ m) × ((k : ℕ) → k < n → bucketAt (store (now nodes) (now children) (now cuts)) k ≡ bucketAt (store (now nodes) (now children) (now cuts)) n → Down (now index) (room (now nodes)) (getD (now index) (room (now nodes) + n) 0) (suc k)) ⌝ }
+    ensures { λ r. ⌜ Decides ((m : ℕ) → m < n → SameRecord (store (now (nodes .entry)) (now (children .entry)) (now (cuts .entry))) m n → ⊥) r ⌝ }
 {
-    let rooms = nodes.len() / 4;
+    let rooms = nodes.len() / RECORD_WORDS;
     let mut at = word(index, rooms + n);
     while 0 < at {
         if same(nodes, children, cuts, at - 1, n) {

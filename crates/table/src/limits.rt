@@ -5,6 +5,13 @@ pub const MOST_NODES: usize = 4096;
 
 pub const MOST_EDGE_ROOM: usize = 16384;
 
+// The words of a node record; of the index and of the memo for each node record of the room.
+pub const RECORD_WORDS: usize = 4;
+
+pub const INDEX_WORDS: usize = 2;
+
+pub const MEMO_WORDS: usize = 3;
+
 // "A range node has 2 to 64 edges."
 pub const MOST_EDGES: usize = 64;
 

@@ -1,22 +1,21 @@
 // What an id says under a reading: one child a variable, from the id down to a terminal.
-ghost use Rattle.ids.specs.Index.{KnownTo};
 ghost use Rattle.ranges.specs.Line.{Place};
 ghost use mathlib.Core.Path.{_≡_};
 ghost use Prim.Native.Nat.{ℕ, _+_, _*_, _<_, _≤_};
 ghost use lib.ListN.{length};
 ghost use Rattle.table.specs.Deciding.{Decides};
 ghost use Rattle.diagram.specs.Room.{mostEdges};
-ghost use Rattle.table.specs.Layout.{mostNodes, room, cutAt};
-ghost use Rattle.table.specs.Lent.{Rules};
+ghost use Rattle.table.specs.Layout.{mostNodes, room, cutAt, store};
+ghost use Rattle.table.specs.Lent.{Rules, SoundRecords};
 ghost use Rattle.table.specs.Held.{held};
 ghost use Rattle.table.specs.Told.{Places};
-ghost use Rattle.table.specs.Checking.{Chosen, Next, spots};
+ghost use Rattle.table.specs.Checking.{Chosen, Next, Legible, spots};
 ghost use Rattle.diagram.specs.Table.{firstBoolean, value};
 use super::limits::FIRST_BOOLEAN;
 use super::words::child_at;
 use super::words::count_of;
+use super::words::cut_position_at;
 use super::words::first_of;
-use super::words::level_at;
 use super::words::var_of;
 use super::words::wide;
 use ids::NodeId;
@@ -31,7 +30,7 @@ pub fn choose(children: &[u32], cuts: &[i64], e: usize, count: usize, p: usize) 
     let end = count - 1;
     let mut j = 0;
     while j < end {
-        if p < level_at(cuts, e + j) {
+        if p < cut_position_at(cuts, e + j) {
             return child_at(children, e + j);
         }
         j += 1;
@@ -48,14 +47,14 @@ pub fn next_of(
     bools: usize,
     n: usize,
 ) -> usize
-    requires { ⌜ (n * 4 + 4 ≤ length (now nodes)) × (length (now cuts) ≡ length (now children)) × (length (now places) ≡ firstBoolean) × (Rules (now nodes) (now children) (now cuts) n) ⌝ }
-    ensures { λ r. ⌜ Next (now (nodes .entry)) (now (children .entry)) (now (cuts .entry)) (spots (now (places .entry)) bools) n r ⌝ }
+    requires { ⌜ (n * 4 + 4 ≤ length (now nodes)) × (length (now cuts) ≡ length (now children)) × (length (now places) ≡ firstBoolean) × (Rules (store (now nodes) (now children) (now cuts)) n) ⌝ }
+    ensures { λ r. ⌜ Next (store (now (nodes .entry)) (now (children .entry)) (now (cuts .entry))) (spots (now (places .entry)) bools) n r ⌝ }
 {
     let v = var_of(nodes, n);
     let first = first_of(nodes, n);
     if v < FIRST_BOOLEAN {
         let count = count_of(nodes, n);
-        let p = level_at(places, v);
+        let p = cut_position_at(places, v);
         return choose(children, cuts, first, count, p);
     }
     let k = v - FIRST_BOOLEAN;
@@ -66,18 +65,17 @@ pub fn next_of(
     child_at(children, first + 1)
 }
 
-// Whether the id is true under the reading, in a table of `used` nodes.
+// Whether the id is true under the reading, in a table that is sound.
 pub fn reads(
     nodes: &[u32],
     children: &[u32],
     cuts: &[i64],
     places: &[i64],
     bools: usize,
-    used: usize,
     id: NodeId,
 ) -> bool
-    requires { ⌜ (used ≤ room (now nodes)) × (room (now nodes) ≤ mostNodes) × (length (now cuts) ≡ length (now children)) × (length (now places) ≡ firstBoolean) × ((n : ℕ) → n < used → Rules (now nodes) (now children) (now cuts) n) × (KnownTo used (id .0)) ⌝ }
-    ensures { λ r. ⌜ r ≡ value (held (now (nodes .entry)) (now (children .entry)) (now (cuts .entry)) used) (spots (now (places .entry)) bools) (id .0) ⌝ }
+    requires { ⌜ (room (now nodes) ≤ mostNodes) × (length (now cuts) ≡ length (now children)) × (length (now places) ≡ firstBoolean) × (Legible (store (now nodes) (now children) (now cuts)) (id .0)) ⌝ }
+    ensures { λ r. ⌜ ((u : ℕ) → SoundRecords (store (now (nodes .entry)) (now (children .entry)) (now (cuts .entry))) u → r ≡ value (held (store (now (nodes .entry)) (now (children .entry)) (now (cuts .entry))) u) (spots (now (places .entry)) bools) (id .0)) ⌝ }
 {
     let mut at = id;
     while 2 <= at.0 {
@@ -88,7 +86,7 @@ pub fn reads(
 }
 
 // Whether z is a place.
-pub fn place_ok(z: i64) -> bool
+pub fn is_place(z: i64) -> bool
     ensures { λ r. ⌜ Decides (Place z) r ⌝ }
 {
     if z < LOWEST {
@@ -100,22 +98,22 @@ pub fn place_ok(z: i64) -> bool
     true
 }
 
-pub fn place_at(places: &[i64], v: usize) -> bool
+pub fn is_place_at(places: &[i64], v: usize) -> bool
     requires { ⌜ v < length (now places) ⌝ }
     ensures { λ r. ⌜ Decides (Place (cutAt (now (places .entry)) v)) r ⌝ }
 {
     let z = places[v];
-    place_ok(z)
+    is_place(z)
 }
 
 // Whether all 32 are places.
-pub fn places_ok(places: &[i64]) -> bool
+pub fn are_places(places: &[i64]) -> bool
     requires { ⌜ length (now places) ≡ firstBoolean ⌝ }
     ensures { λ r. ⌜ Decides (Places (now (places .entry))) r ⌝ }
 {
     let mut v = 0;
     while v < FIRST_BOOLEAN {
-        if !place_at(places, v) {
+        if !is_place_at(places, v) {
             return false;
         }
         v += 1;

@@ -5,7 +5,7 @@ ghost use lib.ListN.{length};
 ghost use Rattle.table.specs.Deciding.{Decides};
 ghost use Rattle.diagram.specs.Room.{mostEdges};
 ghost use Rattle.diagram.specs.Table.{variables};
-ghost use Rattle.table.specs.Layout.{varAt, start};
+ghost use Rattle.table.specs.Layout.{varAt, start, store};
 ghost use Rattle.table.specs.Lent.{Stands, KidsStand, Blank};
 ghost use Rattle.table.specs.Checking.{Climbs, Passes, Keeps};
 use super::index::hash_of;
@@ -16,8 +16,8 @@ use super::limits::VARIABLES;
 use super::words::blank_at;
 use super::words::child_at;
 use super::words::count_of;
+use super::words::cut_position_at;
 use super::words::first_of;
-use super::words::level_at;
 use super::words::one_for;
 use super::words::spare_of;
 use super::words::var_of;
@@ -110,7 +110,7 @@ pub fn pass(
     count: usize,
 ) -> Seen
     requires { ⌜ (n * 4 + 4 ≤ length (now nodes)) × (v < variables) × (1 ≤ count) × (count ≤ mostEdges) × (e + count ≤ length (now children)) × (length (now cuts) ≡ length (now children)) ⌝ }
-    ensures { λ r. ⌜ Passes (now (nodes .entry)) (now (children .entry)) (now (cuts .entry)) n v e count (Climbs (now (cuts .entry)) e count) (r .ok) (r .hash) ⌝ }
+    ensures { λ r. ⌜ Passes (store (now (nodes .entry)) (now (children .entry)) (now (cuts .entry))) n v e count (Climbs (now (cuts .entry)) e count) (r .ok) (r .hash) ⌝ }
 {
     let end = count - 1;
     let mut last = child_at(children, e);
@@ -121,7 +121,7 @@ pub fn pass(
     let mut low: usize = 0;
     let mut j = 0;
     while j < end {
-        let k = level_at(cuts, e + j);
+        let k = cut_position_at(cuts, e + j);
         if k <= low {
             return Seen { ok: false, hash: 0 };
         }
@@ -150,7 +150,7 @@ pub fn pass(
 // One pass over the edges of a boolean node, high and low.
 pub fn pair(nodes: &[u32], children: &[u32], cuts: &[i64], n: usize, v: usize, e: usize) -> Seen
     requires { ⌜ (n * 4 + 4 ≤ length (now nodes)) × (v < variables) × (e + 2 ≤ length (now children)) × (length (now cuts) ≡ length (now children)) ⌝ }
-    ensures { λ r. ⌜ Passes (now (nodes .entry)) (now (children .entry)) (now (cuts .entry)) n v e 2 (Blank (now (cuts .entry)) e) (r .ok) (r .hash) ⌝ }
+    ensures { λ r. ⌜ Passes (store (now (nodes .entry)) (now (children .entry)) (now (cuts .entry))) n v e 2 (Blank (now (cuts .entry)) e) (r .ok) (r .hash) ⌝ }
 {
     if !kids_stand(nodes, children, n, v, e, 2) {
         return Seen { ok: false, hash: 0 };
@@ -168,7 +168,7 @@ pub fn pair(nodes: &[u32], children: &[u32], cuts: &[i64], n: usize, v: usize, e
 // Whether record n keeps the rules of a node, after records with e edges, and then its hash.
 pub fn rules_hold(nodes: &[u32], children: &[u32], cuts: &[i64], n: usize, e: usize) -> Seen
     requires { ⌜ (n * 4 + 4 ≤ length (now nodes)) × (e ≡ start (now nodes) n) × (e ≤ length (now children)) × (length (now cuts) ≡ length (now children)) ⌝ }
-    ensures { λ r. ⌜ Keeps (now (nodes .entry)) (now (children .entry)) (now (cuts .entry)) n (r .ok) (r .hash) ⌝ }
+    ensures { λ r. ⌜ Keeps (store (now (nodes .entry)) (now (children .entry)) (now (cuts .entry))) n (r .ok) (r .hash) ⌝ }
 {
     let v = var_of(nodes, n);
     let count = count_of(nodes, n);

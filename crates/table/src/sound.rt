@@ -3,12 +3,13 @@ ghost use mathlib.Core.Path.{_≡_};
 ghost use Prim.Native.Nat.{ℕ, _*_, _<_, _≤_};
 ghost use lib.ListN.{length};
 ghost use Rattle.table.specs.Deciding.{Decides};
-ghost use Rattle.table.specs.Layout.{mostNodes, Lengths, start, room};
+ghost use Rattle.table.specs.Layout.{mostNodes, Lengths, start, room, store};
 ghost use Rattle.table.specs.Lent.{Rules};
 ghost use Rattle.table.specs.Checking.{Judges, Rest, ExtendsAt, Tallied};
 use super::index::alone;
 use super::index::leads;
 use super::index::scaled;
+use super::limits::RECORD_WORDS;
 use super::rules::rules_hold;
 use super::words::blanks_from;
 use super::words::count_of;
@@ -32,14 +33,14 @@ pub fn extends(
     n: usize,
     e: usize,
 ) -> bool
-    requires { ⌜ (Lengths (length (now nodes)) (length (now children)) (length (now cuts)) (length (now index))) × (n < room (now nodes)) × (e ≡ start (now nodes) n) × (e ≤ length (now children)) × ((m : ℕ) → m < n → ExtendsAt (now nodes) (now children) (now cuts) (now index) m) ⌝ }
-    ensures { λ r. ⌜ Decides (ExtendsAt (now (nodes .entry)) (now (children .entry)) (now (cuts .entry)) (now (index .entry)) n) r ⌝ }
+    requires { ⌜ (Lengths (length (now nodes)) (length (now children)) (length (now cuts)) (length (now index))) × (n < room (now nodes)) × (e ≡ start (now nodes) n) × (e ≤ length (now children)) × ((m : ℕ) → m < n → ExtendsAt (store (now nodes) (now children) (now cuts)) (now index) m) ⌝ }
+    ensures { λ r. ⌜ Decides (ExtendsAt (store (now (nodes .entry)) (now (children .entry)) (now (cuts .entry))) (now (index .entry)) n) r ⌝ }
 {
     let seen = rules_hold(nodes, children, cuts, n, e);
     if !seen.ok {
         return false;
     }
-    let rooms = nodes.len() / 4;
+    let rooms = nodes.len() / RECORD_WORDS;
     let b = scaled(seen.hash, rooms);
     let next = word(index, rooms + n);
     if n < next {
@@ -85,10 +86,10 @@ pub fn rest_holds(
     n: usize,
     e: usize,
 ) -> bool
-    requires { ⌜ (Lengths (length (now nodes)) (length (now children)) (length (now cuts)) (length (now index))) × (n ≤ room (now nodes)) × (e ≤ length (now children)) × ((m : ℕ) → m < n → Rules (now nodes) (now children) (now cuts) m) ⌝ }
-    ensures { λ r. ⌜ Decides (Rest (now (nodes .entry)) (now (children .entry)) (now (cuts .entry)) (now (index .entry)) n e) r ⌝ }
+    requires { ⌜ (Lengths (length (now nodes)) (length (now children)) (length (now cuts)) (length (now index))) × (n ≤ room (now nodes)) × (e ≤ length (now children)) × ((m : ℕ) → m < n → Rules (store (now nodes) (now children) (now cuts)) m) ⌝ }
+    ensures { λ r. ⌜ Decides (Rest (store (now (nodes .entry)) (now (children .entry)) (now (cuts .entry))) (now (index .entry)) n e) r ⌝ }
 {
-    if !zeros_from(nodes, n * 4) {
+    if !zeros_from(nodes, n * RECORD_WORDS) {
         return false;
     }
     if !zeros_from(children, e) {
@@ -97,7 +98,7 @@ pub fn rest_holds(
     if !blanks_from(cuts, e) {
         return false;
     }
-    let rooms = nodes.len() / 4;
+    let rooms = nodes.len() / RECORD_WORDS;
     if !zeros_from(index, rooms + n) {
         return false;
     }
@@ -107,9 +108,9 @@ pub fn rest_holds(
 // Whether the table is sound, with its used counts.
 pub fn judge(nodes: &[u32], children: &[u32], cuts: &[i64], index: &[u32]) -> Judged
     requires { ⌜ Lengths (length (now nodes)) (length (now children)) (length (now cuts)) (length (now index)) ⌝ }
-    ensures { λ r. ⌜ Judges (now (nodes .entry)) (now (children .entry)) (now (cuts .entry)) (now (index .entry)) (r .nodes) (r .edges) (r .sound) ⌝ }
+    ensures { λ r. ⌜ Judges (store (now (nodes .entry)) (now (children .entry)) (now (cuts .entry))) (now (index .entry)) (r .nodes) (r .edges) (r .sound) ⌝ }
 {
-    let rooms = nodes.len() / 4;
+    let rooms = nodes.len() / RECORD_WORDS;
     let mut n = 0;
     let mut e = 0;
     while n < rooms {

@@ -5,11 +5,13 @@ ghost use lib.ListN.{length, getD};
 ghost use lib.IntN.{pos};
 ghost use lib.Dec.{eqb};
 ghost use Rattle.table.specs.Deciding.{Decides};
-ghost use Rattle.table.specs.Layout.{varAt, countAt, firstAt, spareAt, kidAt, level, cutAt, Lengths};
+ghost use Rattle.table.specs.Layout.{varAt, countAt, firstAt, spareAt, kidAt, cutPosition, cutAt, Lengths};
 ghost use Rattle.table.specs.Checking.{some};
+use super::limits::INDEX_WORDS;
 use super::limits::LOWEST_CUT;
 use super::limits::MOST_EDGE_ROOM;
 use super::limits::MOST_NODES;
+use super::limits::RECORD_WORDS;
 use ranges::places::HIGHEST;
 use ranges::places::LOWEST;
 
@@ -24,28 +26,28 @@ pub fn var_of(nodes: &[u32], n: usize) -> usize
     requires { ⌜ n * 4 + 4 ≤ length (now nodes) ⌝ }
     ensures { λ r. ⌜ (r ≡ varAt (now (nodes .entry)) n) × (r < 4294967296) ⌝ }
 {
-    wide(nodes[n * 4])
+    wide(nodes[n * RECORD_WORDS])
 }
 
 pub fn count_of(nodes: &[u32], n: usize) -> usize
     requires { ⌜ n * 4 + 4 ≤ length (now nodes) ⌝ }
     ensures { λ r. ⌜ (r ≡ countAt (now (nodes .entry)) n) × (r < 4294967296) ⌝ }
 {
-    wide(nodes[n * 4 + 1])
+    wide(nodes[n * RECORD_WORDS + 1])
 }
 
 pub fn first_of(nodes: &[u32], n: usize) -> usize
     requires { ⌜ n * 4 + 4 ≤ length (now nodes) ⌝ }
     ensures { λ r. ⌜ (r ≡ firstAt (now (nodes .entry)) n) × (r < 4294967296) ⌝ }
 {
-    wide(nodes[n * 4 + 2])
+    wide(nodes[n * RECORD_WORDS + 2])
 }
 
 pub fn spare_of(nodes: &[u32], n: usize) -> usize
     requires { ⌜ n * 4 + 4 ≤ length (now nodes) ⌝ }
     ensures { λ r. ⌜ (r ≡ spareAt (now (nodes .entry)) n) × (r < 4294967296) ⌝ }
 {
-    wide(nodes[n * 4 + 3])
+    wide(nodes[n * RECORD_WORDS + 3])
 }
 
 // The child of edge i: an id.
@@ -65,8 +67,8 @@ pub fn word(words: &[u32], i: usize) -> usize
 }
 
 // A cut as a number from 1 to 2^33; 0 for a number that is no cut.
-pub fn level_of(z: i64) -> usize
-    ensures { λ r. ⌜ (r ≡ level z) × (r < 8589934593) ⌝ }
+pub fn cut_position(z: i64) -> usize
+    ensures { λ r. ⌜ (r ≡ cutPosition z) × (r < 8589934593) ⌝ }
 {
     if z < LOWEST_CUT {
         return 0;
@@ -99,12 +101,12 @@ pub fn equal(y: i64, z: i64) -> bool
 }
 
 // Cut i as a number from 1 to 2^33, or 0.
-pub fn level_at(cuts: &[i64], i: usize) -> usize
+pub fn cut_position_at(cuts: &[i64], i: usize) -> usize
     requires { ⌜ i < length (now cuts) ⌝ }
-    ensures { λ r. ⌜ (r ≡ level (cutAt (now (cuts .entry)) i)) × (r < 8589934593) ⌝ }
+    ensures { λ r. ⌜ (r ≡ cutPosition (cutAt (now (cuts .entry)) i)) × (r < 8589934593) ⌝ }
 {
     let z = cuts[i];
-    level_of(z)
+    cut_position(z)
 }
 
 // Whether cut i is empty.
@@ -185,14 +187,14 @@ pub fn blanks_from(cuts: &[i64], from: usize) -> bool
 pub fn lengths_allowed(nodes: usize, children: usize, cuts: usize, index: usize) -> bool
     ensures { λ r. ⌜ Decides (Lengths nodes children cuts index) r ⌝ }
 {
-    let room = nodes / 4;
+    let room = nodes / RECORD_WORDS;
     if room < 1 {
         return false;
     }
     if MOST_NODES < room {
         return false;
     }
-    if nodes != room * 4 {
+    if nodes != room * RECORD_WORDS {
         return false;
     }
     if children < 2 {
@@ -204,7 +206,7 @@ pub fn lengths_allowed(nodes: usize, children: usize, cuts: usize, index: usize)
     if cuts != children {
         return false;
     }
-    if index != room * 2 {
+    if index != room * INDEX_WORDS {
         return false;
     }
     true

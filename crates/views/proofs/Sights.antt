@@ -21,7 +21,7 @@ use Rattle.diagram.proofs.Numbered.{count-run, each-run, run-shift, map-run}
 use Rattle.diagram.proofs.Runs.{count-most}
 use Rattle.diagram.proofs.Readings.{bool-top}
 use Rattle.diagram.proofs.Cofactors.{edge-own, edge-other, edges-of, edges-rising}
-use Rattle.table.specs.Layout.{varAt, countAt, firstAt, kidAt, cutAt, level, start}
+use Rattle.table.specs.Layout.{varAt, countAt, firstAt, kidAt, cutAt, cutPosition, start, Store}
 use Rattle.table.specs.Lent.{Rules, SoundLent}
 use Rattle.table.specs.Held.{edgesFrom, nodeAt, held}
 use Rattle.table.specs.Told.{Allowed}
@@ -88,9 +88,9 @@ unfolding seen
 seen-bool children cuts v w j h = run-shift (childSeen children w) (childSeen children w) (cutSeen cuts v w) (cutSeen cuts firstBoolean w) j j (w .count - 1 - j) (λ i l. refl) (λ i l. cutSeen-bool cuts v w (j + i) h ∙ sym (cutSeen-bool cuts firstBoolean w (j + i) (omega arith)))
 
 -- the cut that stands in the table
-pub cutSeen-level : (cuts : List ℤ) (w : View) (j : ℕ) → cutSeen cuts 0 w j ≡ level (cutAt cuts (w .first + j))
+pub cutSeen-position : (cuts : List ℤ) (w : View) (j : ℕ) → cutSeen cuts 0 w j ≡ cutPosition (cutAt cuts (w .first + j))
 unfolding cutSeen
-cutSeen-level cuts w j = refl
+cutSeen-position cuts w j = refl
 
 -- a child is the id itself, or that of the table under its sign
 pub childSeen-own : (children : List ℕ) (w : View) (j : ℕ) → w .count ≡ 1 → childSeen children w j ≡ w .id .0
@@ -127,90 +127,90 @@ module _ (children children′ : List ℕ) (cuts cuts′ : List ℤ) (v e : ℕ)
   unfolding cutSeen
   cutSeen-stays same j h = rw (same (w .first + j) (omega (arith, i .within (omega arith))))
 
-module _ (nodes children : List ℕ) (cuts : List ℤ) where
+module _ (st : Store) where
   -- a view of all edges of record n shows them
-  view-range : (n : ℕ) (w : View) → Rules nodes children cuts n → varAt nodes n < 32 → w .first ≡ firstAt nodes n → w .count ≡ countAt nodes n → seen children cuts (varAt nodes n) w 0 ≡ map (under (sign (w .id .0))) (nodeAt nodes children cuts n .edges)
+  view-range : (n : ℕ) (w : View) → Rules st n → varAt (st .nodes) n < 32 → w .first ≡ firstAt (st .nodes) n → w .count ≡ countAt (st .nodes) n → seen (st .children) (st .cuts) (varAt (st .nodes) n) w 0 ≡ map (under (sign (w .id .0))) (nodeAt st n .edges)
   unfolding seen
   view-range n w r h f k =
       let s = sign (w .id .0) in
       let m = w .count - 1 - 0 in
-      let b : m ≡ countAt nodes n - 1 = omega arith in
-      run-shift (childSeen children w) (λ j. under s (kidAt children (w .first + j))) (cutSeen cuts (varAt nodes n) w) (λ j. level (cutAt cuts (w .first + j))) 0 0 m
-      (λ j l. childSeen-kid children w (0 + j) (λ q. omega (arith, r .many))) (λ j l. cutSeen-range cuts (varAt nodes n) w (0 + j) h ∙ cutSeen-level cuts w (0 + j))
-      ∙ (sym (map-run (under s) (λ j. kidAt children (w .first + j)) (λ j. level (cutAt cuts (w .first + j))) 0 m)
-      ∙ ap (map (under s)) (sym (edges-run children cuts (w .first) m) ∙ ((λ i. edgesFrom children cuts (f i) (b i)) ∙ sym (range-edges children cuts (varAt nodes n) (firstAt nodes n) (countAt nodes n) h))))
+      let b : m ≡ countAt (st .nodes) n - 1 = omega arith in
+      run-shift (childSeen (st .children) w) (λ j. under s (kidAt (st .children) (w .first + j))) (cutSeen (st .cuts) (varAt (st .nodes) n) w) (λ j. cutPosition (cutAt (st .cuts) (w .first + j))) 0 0 m
+      (λ j l. childSeen-kid (st .children) w (0 + j) (λ q. omega (arith, r .many))) (λ j l. cutSeen-range (st .cuts) (varAt (st .nodes) n) w (0 + j) h ∙ cutSeen-position (st .cuts) w (0 + j))
+      ∙ (sym (map-run (under s) (λ j. kidAt (st .children) (w .first + j)) (λ j. cutPosition (cutAt (st .cuts) (w .first + j))) 0 m)
+      ∙ ap (map (under s)) (sym (edges-run (st .children) (st .cuts) (w .first) m) ∙ ((λ i. edgesFrom (st .children) (st .cuts) (f i) (b i)) ∙ sym (range-edges (st .children) (st .cuts) (varAt (st .nodes) n) (firstAt (st .nodes) n) (countAt (st .nodes) n) h))))
 
-  view-bool : (n : ℕ) (w : View) → Rules nodes children cuts n → 32 ≤ varAt nodes n → w .first ≡ firstAt nodes n → w .count ≡ countAt nodes n → seen children cuts (varAt nodes n) w 0 ≡ map (under (sign (w .id .0))) (nodeAt nodes children cuts n .edges)
+  view-bool : (n : ℕ) (w : View) → Rules st n → 32 ≤ varAt (st .nodes) n → w .first ≡ firstAt (st .nodes) n → w .count ≡ countAt (st .nodes) n → seen (st .children) (st .cuts) (varAt (st .nodes) n) w 0 ≡ map (under (sign (w .id .0))) (nodeAt st n .edges)
   unfolding map
   view-bool n w r h f k =
       let s = sign (w .id .0) in
-      let a : w .first + 0 ≡ firstAt nodes n = omega arith in
-      let b : w .first + 1 ≡ firstAt nodes n + 1 = omega arith in
-      let p = childSeen-kid children w 0 (λ q. omega (arith, r .many)) ∙ ap (λ (i : ℕ). under s (kidAt children i)) a in
-      let q = childSeen-kid children w 1 (λ q. omega (arith, r .many)) ∙ ap (λ (i : ℕ). under s (kidAt children i)) b in
-      seen-two children cuts (varAt nodes n) w h (k ∙ r .two h)
-      ∙ ((λ i. cut (p i) 1 (last (q i))) ∙ ap (map (under s)) (sym (bool-edges children cuts (varAt nodes n) (firstAt nodes n) (countAt nodes n) h)))
+      let a : w .first + 0 ≡ firstAt (st .nodes) n = omega arith in
+      let b : w .first + 1 ≡ firstAt (st .nodes) n + 1 = omega arith in
+      let p = childSeen-kid (st .children) w 0 (λ q. omega (arith, r .many)) ∙ ap (λ (i : ℕ). under s (kidAt (st .children) i)) a in
+      let q = childSeen-kid (st .children) w 1 (λ q. omega (arith, r .many)) ∙ ap (λ (i : ℕ). under s (kidAt (st .children) i)) b in
+      seen-two (st .children) (st .cuts) (varAt (st .nodes) n) w h (k ∙ r .two h)
+      ∙ ((λ i. cut (p i) 1 (last (q i))) ∙ ap (map (under s)) (sym (bool-edges (st .children) (st .cuts) (varAt (st .nodes) n) (firstAt (st .nodes) n) (countAt (st .nodes) n) h)))
 
-  view-record : (n : ℕ) (w : View) → Rules nodes children cuts n → w .first ≡ firstAt nodes n → w .count ≡ countAt nodes n → seen children cuts (varAt nodes n) w 0 ≡ map (under (sign (w .id .0))) (nodeAt nodes children cuts n .edges)
-  view-record n w r f k = ⊎-elim (λ h. view-range n w r h f k) (λ h. view-bool n w r h f k) (laws.split (varAt nodes n) 32)
+  view-record : (n : ℕ) (w : View) → Rules st n → w .first ≡ firstAt (st .nodes) n → w .count ≡ countAt (st .nodes) n → seen (st .children) (st .cuts) (varAt (st .nodes) n) w 0 ≡ map (under (sign (w .id .0))) (nodeAt st n .edges)
+  view-record n w r f k = ⊎-elim (λ h. view-range n w r h f k) (λ h. view-bool n w r h f k) (laws.split (varAt (st .nodes) n) 32)
 
-module _ (nodes children : List ℕ) (cuts : List ℤ) (u id : ℕ) (r : Readable nodes children cuts u) (a : 2 ≤ id) (b : KnownTo u id) where
+module _ (st : Store) (u id : ℕ) (r : Readable st u) (a : 2 ≤ id) (b : KnownTo u id) where
   -- the node of an id that is no terminal
-  pub node-at : at (held nodes children cuts u) (ref id) ≡ nodeAt nodes children cuts (id / 2 - 1)
-  node-at = let e : id / 2 ≡ suc (id / 2 - 1) = omega arith in ap (at (held nodes children cuts u)) e ∙ table-at nodes children cuts u (id / 2 - 1) (omega arith)
+  pub node-at : at (held st u) (ref id) ≡ nodeAt st (id / 2 - 1)
+  node-at = let e : id / 2 ≡ suc (id / 2 - 1) = omega arith in ap (at (held st u)) e ∙ table-at st u (id / 2 - 1) (omega arith)
 
-  pub node-var : (at (held nodes children cuts u) (ref id)) .var ≡ varAt nodes (id / 2 - 1)
+  pub node-var : (at (held st u) (ref id)) .var ≡ varAt (st .nodes) (id / 2 - 1)
   node-var = ap (λ (x : Node). x .var) node-at
 
-  pub node-rules : Rules nodes children cuts (id / 2 - 1)
+  pub node-rules : Rules st (id / 2 - 1)
   node-rules = r .rules (id / 2 - 1) (omega arith)
 
   -- the view of its own edges, at its own variable
-  pub views-own : (v : ℕ) (w : View) → varAt nodes (id / 2 - 1) ≡ v → w .id .0 ≡ id → w .first ≡ firstAt nodes (id / 2 - 1) → w .count ≡ countAt nodes (id / 2 - 1) → Views nodes children cuts u v id w
+  pub views-own : (v : ℕ) (w : View) → varAt (st .nodes) (id / 2 - 1) ≡ v → w .id .0 ≡ id → w .first ≡ firstAt (st .nodes) (id / 2 - 1) → w .count ≡ countAt (st .nodes) (id / 2 - 1) → Views st u v id w
   views-own v w e i f k =
       let n = id / 2 - 1 in
       let q = node-rules in
       record {
         inside = record { some = omega (arith, q .many); most = omega (arith, q .most); within = λ l. omega (arith, laws.edges-before {n = n} {u = u} (omega arith) q) };
-        edges = (λ x. seen children cuts (sym e x) w 0) ∙ (view-record nodes children cuts n w q f k
-            ∙ (ap₂ (λ (s : ℕ) (x : Node). map (under (sign s)) (x .edges)) i (sym node-at) ∙ sym (edge-own (held nodes children cuts u) v id (node-var ∙ e))));
+        edges = (λ x. seen (st .children) (st .cuts) (sym e x) w 0) ∙ (view-record st n w q f k
+            ∙ (ap₂ (λ (s : ℕ) (x : Node). map (under (sign s)) (x .edges)) i (sym node-at) ∙ sym (edge-own (held st u) v id (node-var ∙ e))));
       }
 
   -- at another variable the id stands for itself
-  pub views-other : (v : ℕ) (w : View) → (varAt nodes (id / 2 - 1) ≡ v → ⊥) → w .id .0 ≡ id → w .count ≡ 1 → Views nodes children cuts u v id w
+  pub views-other : (v : ℕ) (w : View) → (varAt (st .nodes) (id / 2 - 1) ≡ v → ⊥) → w .id .0 ≡ id → w .count ≡ 1 → Views st u v id w
   views-other v w n i k = record {
     inside = record { some = omega arith; most = omega arith; within = λ l. absurd (omega arith) };
-    edges = seen-one children cuts v w k ∙ (ap last (childSeen-own children w 0 k ∙ i) ∙ sym (edge-other (held nodes children cuts u) v id (λ e. n (sym node-var ∙ e))));
+    edges = seen-one (st .children) (st .cuts) v w k ∙ (ap last (childSeen-own (st .children) w 0 k ∙ i) ∙ sym (edge-other (held st u) v id (λ e. n (sym node-var ∙ e))));
   }
 
 -- what is known of the edges that a view shows, of an id whose variable is v or later
-module _ (nodes children : List ℕ) (cuts : List ℤ) (u v id : ℕ) (w : View) (r : Readable nodes children cuts u) (hv : v < variables) (k : Child (held nodes children cuts u) v id) (x : Views nodes children cuts u v id w) where
-  pub views-rising : Rising 0 (topOf v) (seen children cuts v w 0)
-  views-rising = subst (Rising 0 (topOf v)) (sym (x .edges)) (edges-rising (held nodes children cuts u) (r .sound) v id hv k)
+module _ (st : Store) (u v id : ℕ) (w : View) (r : Readable st u) (hv : v < variables) (k : Child (held st u) v id) (x : Views st u v id w) where
+  pub views-rising : Rising 0 (topOf v) (seen (st .children) (st .cuts) v w 0)
+  views-rising = subst (Rising 0 (topOf v)) (sym (x .edges)) (edges-rising (held st u) (r .sound) v id hv k)
 
-  pub views-kids : Each (Child (held nodes children cuts u) (suc v)) (seen children cuts v w 0)
-  views-kids = subst (Each (Child (held nodes children cuts u) (suc v))) (sym (x .edges)) (edges-of (held nodes children cuts u) (r .sound) v id hv k .kids)
+  pub views-kids : Each (Child (held st u) (suc v)) (seen (st .children) (st .cuts) v w 0)
+  views-kids = subst (Each (Child (held st u) (suc v))) (sym (x .edges)) (edges-of (held st u) (r .sound) v id hv k .kids)
 
   -- an id has at most two edges at a boolean variable
   pub count-bool : firstBoolean ≤ v → w .count ≤ 2
   count-bool h =
-      let m = count-most 0 (topOf v) (edgesOf (held nodes children cuts u) v id) (edges-of (held nodes children cuts u) (r .sound) v id hv k .reduced) in
-      omega (arith, bool-top v h, m, ap count (x .edges), seen-count children cuts v w (x .inside .some))
+      let m = count-most 0 (topOf v) (edgesOf (held st u) v id) (edges-of (held st u) (r .sound) v id hv k .reduced) in
+      omega (arith, bool-top v h, m, ap count (x .edges), seen-count (st .children) (st .cuts) v w (x .inside .some))
 
 -- the view lies within the words
-pub views-inside : (nodes children : List ℕ) (cuts : List ℤ) (u v id : ℕ) (w : View) → Readable nodes children cuts u → Views nodes children cuts u v id w → Inside (length children) w
-views-inside nodes children cuts u v id w r x = inside-wider (start nodes u) (length children) w (edges-fit nodes children cuts u (r .rules)) (x .inside)
+pub views-inside : (st : Store) (u v id : ℕ) (w : View) → Readable st u → Views st u v id w → Inside (length (st .children)) w
+views-inside st u v id w r x = inside-wider (start (st .nodes) u) (length (st .children)) w (edges-fit st u (r .rules)) (x .inside)
 
 -- the known ids of the table, by its length
-pub known-held : (nodes children : List ℕ) (cuts : List ℤ) (u id : ℕ) → KnownTo u id → KnownTo (length (held nodes children cuts u)) id
-known-held nodes children cuts u id h = let l = table-length nodes children cuts u in omega arith
+pub known-held : (st : Store) (u id : ℕ) → KnownTo u id → KnownTo (length (held st u)) id
+known-held st u id h = let l = table-length st u in omega arith
 
-pub known-used : (nodes children : List ℕ) (cuts : List ℤ) (u id : ℕ) → KnownTo (length (held nodes children cuts u)) id → KnownTo u id
-known-used nodes children cuts u id h = let l = table-length nodes children cuts u in omega arith
+pub known-used : (st : Store) (u id : ℕ) → KnownTo (length (held st u)) id → KnownTo u id
+known-used st u id h = let l = table-length st u in omega arith
 
 -- a sound lent table can be read
-pub readable : (nodes children : List ℕ) (cuts : List ℤ) (index : List ℕ) (u : ℕ) → Allowed nodes children cuts index → SoundLent nodes children cuts index u → Readable nodes children cuts u
-readable nodes children cuts index u a s = record { fits = omega (arith, s .fits); cut-each = a .cut-each; small = omega (arith, s .fits, a .most-nodes); rules = s .rules; sound = ordered nodes children cuts index u s }
+pub readable : (st : Store) (index : List ℕ) (u : ℕ) → Allowed st index → SoundLent st index u → Readable st u
+readable st index u a s = record { fits = omega (arith, s .records .fits); cut-each = a .cut-each; small = omega (arith, s .records .fits, a .most-nodes); rules = s .records .rules; sound = ordered st index u s }
 
 -- with more levels than there are variables, every known id may be asked about
 pub asked-all : {t : Table} {u id : ℕ} → KnownTo u id → Asked t u (variables + 1) id
@@ -220,15 +220,15 @@ asked-all k = record { known = k; ahead = omega arith }
 pub one-more : {n : ℕ} → 1 ≤ n → (n ≡ 1 → ⊥) → 1 < n
 one-more h q = omega (arith, q)
 
-module _ {nodes children : List ℕ} {cuts : List ℤ} {u id x y : ℕ} (r : Readable nodes children cuts u) (a : 2 ≤ id) (b : KnownTo u id) (wide : x ≡ id) where
-  pub variable-is : y ≡ varAt nodes (x / 2 - 1) → (y ≡ (at (held nodes children cuts u) (ref id)) .var) × (y < variables)
+module _ {st : Store} {u id x y : ℕ} (r : Readable st u) (a : 2 ≤ id) (b : KnownTo u id) (wide : x ≡ id) where
+  pub variable-is : y ≡ varAt (st .nodes) (x / 2 - 1) → (y ≡ (at (held st u) (ref id)) .var) × (y < variables)
   variable-is e =
-      let q = e ∙ ap (λ (z : ℕ). varAt nodes (z / 2 - 1)) wide in
-      (q ∙ sym (node-var nodes children cuts u id r a b), omega (arith, q, node-rules nodes children cuts u id r a b .known))
+      let q = e ∙ ap (λ (z : ℕ). varAt (st .nodes) (z / 2 - 1)) wide in
+      (q ∙ sym (node-var st u id r a b), omega (arith, q, node-rules st u id r a b .known))
 
-  pub other-seen : {v : ℕ} {w : View} → y ≡ varAt nodes (x / 2 - 1) → (y ≡ v → ⊥) → w .id .0 ≡ id → w .count ≡ 1 → Views nodes children cuts u v id w
-  other-seen {v} {w} e d i k = views-other nodes children cuts u id r a b v w (λ q. d (e ∙ (ap (λ (z : ℕ). varAt nodes (z / 2 - 1)) wide ∙ q))) i k
+  pub other-seen : {v : ℕ} {w : View} → y ≡ varAt (st .nodes) (x / 2 - 1) → (y ≡ v → ⊥) → w .id .0 ≡ id → w .count ≡ 1 → Views st u v id w
+  other-seen {v} {w} e d i k = views-other st u id r a b v w (λ q. d (e ∙ (ap (λ (z : ℕ). varAt (st .nodes) (z / 2 - 1)) wide ∙ q))) i k
 
-  pub own-seen : {v : ℕ} {w : View} → y ≡ varAt nodes (x / 2 - 1) → y ≡ v → w .id .0 ≡ id → w .first ≡ firstAt nodes (x / 2 - 1) → w .count ≡ countAt nodes (x / 2 - 1) → Views nodes children cuts u v id w
+  pub own-seen : {v : ℕ} {w : View} → y ≡ varAt (st .nodes) (x / 2 - 1) → y ≡ v → w .id .0 ≡ id → w .first ≡ firstAt (st .nodes) (x / 2 - 1) → w .count ≡ countAt (st .nodes) (x / 2 - 1) → Views st u v id w
   own-seen {v} {w} e d i f k =
-      views-own nodes children cuts u id r a b v w (sym (ap (λ (z : ℕ). varAt nodes (z / 2 - 1)) wide) ∙ (sym e ∙ d)) i (f ∙ ap (λ (z : ℕ). firstAt nodes (z / 2 - 1)) wide) (k ∙ ap (λ (z : ℕ). countAt nodes (z / 2 - 1)) wide)
+      views-own st u id r a b v w (sym (ap (λ (z : ℕ). varAt (st .nodes) (z / 2 - 1)) wide) ∙ (sym e ∙ d)) i (f ∙ ap (λ (z : ℕ). firstAt (st .nodes) (z / 2 - 1)) wide) (k ∙ ap (λ (z : ℕ). countAt (st .nodes) (z / 2 - 1)) wide)

@@ -13,18 +13,18 @@ use Rattle.diagram.specs.Table.{variables, isRange, Table, at}
 use Rattle.diagram.specs.Cofactor.{edgesOf}
 use Rattle.diagram.specs.Room.{mostEdges}
 use Rattle.diagram.specs.Sound.{Sound}
-use Rattle.table.specs.Layout.{kidAt, cutAt, level, start}
+use Rattle.table.specs.Layout.{kidAt, cutAt, cutPosition, start, Store}
 use Rattle.table.specs.Lent.{Rules}
 use Rattle.table.specs.Held.{held}
 use Rattle.views.specs.declared.View.{View}
 
 -- A table that can be read: each of its u records keeps the rules, and they hold a sound table.
-pub record Readable (nodes children : List ℕ) (cuts : List ℤ) (u : ℕ) : Type 0 where
-  pub fits : u * 4 ≤ length nodes
-  pub cut-each : length cuts ≡ length children
+pub record Readable (st : Store) (u : ℕ) : Type 0 where
+  pub fits : u * 4 ≤ length (st .nodes)
+  pub cut-each : length (st .cuts) ≡ length (st .children)
   pub small : u < 4294967296
-  pub rules : (n : ℕ) → n < u → Rules nodes children cuts n
-  pub sound : Sound (held nodes children cuts u)
+  pub rules : (n : ℕ) → n < u → Rules st n
+  pub sound : Sound (held st u)
 
 -- An id that is known where u nodes are used, and has fewer than n variables ahead, its own counted: a terminal has none.
 pub record Asked (t : Table) (u n id : ℕ) : Type 0 where
@@ -41,7 +41,7 @@ childSeen children w j = cond (eqb (w .count) 1) (w .id .0) (under (sign (w .id 
 
 -- Its cut j: of a boolean variable, position 1.
 unfoldable pub cutSeen : List ℤ → ℕ → View → ℕ → ℕ
-cutSeen cuts v w j = cond (isRange v) (level (cutAt cuts (w .first + j))) 1
+cutSeen cuts v w j = cond (isRange v) (cutPosition (cutAt cuts (w .first + j))) 1
 
 -- Its edges from edge j on.
 unfoldable pub seen : List ℕ → List ℤ → ℕ → View → ℕ → Pieces ℕ
@@ -54,6 +54,6 @@ pub record Inside (e : ℕ) (w : View) : Type 0 where
   pub within : 1 < w .count → w .first + w .count ≤ e
 
 -- A view of the edges of an id at the variable v.
-pub record Views (nodes children : List ℕ) (cuts : List ℤ) (u v id : ℕ) (w : View) : Type 0 where
-  pub inside : Inside (start nodes u) w
-  pub edges : seen children cuts v w 0 ≡ edgesOf (held nodes children cuts u) v id
+pub record Views (st : Store) (u v id : ℕ) (w : View) : Type 0 where
+  pub inside : Inside (start (st .nodes) u) w
+  pub edges : seen (st .children) (st .cuts) v w 0 ≡ edgesOf (held st u) v id

@@ -10,11 +10,12 @@ ghost use Rattle.ids.specs.Index.{KnownTo};
 ghost use Rattle.diagram.specs.Table.{variables, at};
 ghost use Rattle.table.specs.Held.{held};
 ghost use Rattle.views.specs.Seeing.{Readable, Inside, Views, beyond, childSeen, cutSeen};
+ghost use Rattle.table.specs.Layout.{store};
 use ids::NodeId;
 use table::words::child_at;
 use table::words::count_of;
+use table::words::cut_position_at;
 use table::words::first_of;
-use table::words::level_at;
 use table::words::var_of;
 use table::words::wide;
 
@@ -30,8 +31,8 @@ pub const END: usize = 8589934593;
 
 // The variable of the node of an id that is no terminal.
 pub fn variable(nodes: &[u32], children: &[u32], cuts: &[i64], used: usize, id: NodeId) -> usize
-    requires { ⌜ (Readable (now nodes) (now children) (now cuts) used) × (2 ≤ id .0) × (KnownTo used (id .0)) ⌝ }
-    ensures { λ r. ⌜ (r ≡ (at (held (now (nodes .entry)) (now (children .entry)) (now (cuts .entry)) used) (ref (id .0))) .var) × (r < variables) ⌝ }
+    requires { ⌜ (Readable (store (now nodes) (now children) (now cuts)) used) × (2 ≤ id .0) × (KnownTo used (id .0)) ⌝ }
+    ensures { λ r. ⌜ (r ≡ (at (held (store (now (nodes .entry)) (now (children .entry)) (now (cuts .entry))) used) (ref (id .0))) .var) × (r < variables) ⌝ }
 {
     var_of(nodes, wide(id.0) / 2 - 1)
 }
@@ -45,8 +46,8 @@ pub fn first_variable(
     x: NodeId,
     y: NodeId,
 ) -> usize
-    requires { ⌜ (Readable (now nodes) (now children) (now cuts) used) × (2 ≤ x .0) × (KnownTo used (x .0)) × (2 ≤ y .0) × (KnownTo used (y .0)) ⌝ }
-    ensures { λ r. ⌜ (r ≡ min ((at (held (now (nodes .entry)) (now (children .entry)) (now (cuts .entry)) used) (ref (x .0))) .var) ((at (held (now (nodes .entry)) (now (children .entry)) (now (cuts .entry)) used) (ref (y .0))) .var)) × (r < variables) ⌝ }
+    requires { ⌜ (Readable (store (now nodes) (now children) (now cuts)) used) × (2 ≤ x .0) × (KnownTo used (x .0)) × (2 ≤ y .0) × (KnownTo used (y .0)) ⌝ }
+    ensures { λ r. ⌜ (r ≡ min ((at (held (store (now (nodes .entry)) (now (children .entry)) (now (cuts .entry))) used) (ref (x .0))) .var) ((at (held (store (now (nodes .entry)) (now (children .entry)) (now (cuts .entry))) used) (ref (y .0))) .var)) × (r < variables) ⌝ }
 {
     let v = variable(nodes, children, cuts, used, x);
     let w = variable(nodes, children, cuts, used, y);
@@ -65,8 +66,8 @@ pub fn view_of(
     id: NodeId,
     v: usize,
 ) -> View
-    requires { ⌜ (Readable (now nodes) (now children) (now cuts) used) × (2 ≤ id .0) × (KnownTo used (id .0)) ⌝ }
-    ensures { λ r. ⌜ Views (now (nodes .entry)) (now (children .entry)) (now (cuts .entry)) used v (id .0) r ⌝ }
+    requires { ⌜ (Readable (store (now nodes) (now children) (now cuts)) used) × (2 ≤ id .0) × (KnownTo used (id .0)) ⌝ }
+    ensures { λ r. ⌜ Views (store (now (nodes .entry)) (now (children .entry)) (now (cuts .entry))) used v (id .0) r ⌝ }
 {
     let n = wide(id.0) / 2 - 1;
     if var_of(nodes, n) != v {
@@ -103,7 +104,7 @@ pub fn cut(cuts: &[i64], w: View, j: usize) -> usize
 {
     let first = w.first;
     if j + 1 < w.count {
-        return level_at(cuts, first + j);
+        return cut_position_at(cuts, first + j);
     }
     END
 }

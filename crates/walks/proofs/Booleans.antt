@@ -22,13 +22,14 @@ use Rattle.walks.specs.Walking.{Note, Ready, Stepped, Sides, both}
 use Rattle.walks.proofs.Composing.{sound-of, grew, then, then-made, becomes, fails}
 use Rattle.walks.proofs.Walk.{Walk}
 use Rattle.walks.proofs.Halves.{half, half-inside, pairAt, pair-kids, first, second, high, low, both-halves, first-before, second-before, answer-kids}
+use Rattle.table.specs.Layout.{Store}
 
 -- A child of the sides may be asked about.
-pub asked-kid : (h : Head) (nodes children : List ℕ) (cuts : List ℤ) {v n c : ℕ} → variables < suc v + n → Child (tableOf h nodes children cuts) (suc v) c → Asked (tableOf h nodes children cuts) (h .used) n c
-asked-kid h nodes children cuts {c = c} e k = record { known = known-used nodes children cuts (h .used) c (k .0); ahead = omega (arith, k .1) }
+pub asked-kid : (h : Head) (st : Store) {v n c : ℕ} → variables < suc v + n → Child (tableOf h st) (suc v) c → Asked (tableOf h st) (h .used) n c
+asked-kid h st {c = c} e k = record { known = known-used st (h .used) c (k .0); ahead = omega (arith, k .1) }
 
 -- A view of old edges lies within the slices.
-pub inside-still : {P : Note} {h : Head} {nodes children : List ℕ} {cuts : List ℤ} {index memo : List ℕ} → Ready P h nodes children cuts index memo → {w : View} → Inside (h .edges) w → {n : ℕ} → n ≡ length children → Inside n w
+pub inside-still : {P : Note} {h : Head} {st : Store} {index memo : List ℕ} → Ready P h st index memo → {w : View} → Inside (h .edges) w → {n : ℕ} → n ≡ length (st .children) → Inside n w
 inside-still {h = h} r {w} i {n} e = inside-wider (h .edges) n w (omega (arith, edges-inside (r .lent))) i
 
 -- The half of a view that was read,
@@ -36,13 +37,13 @@ pub half-of : (children : List ℕ) (w : View) (low : Bool) {i x : ℕ} → x �
 half-of children w low e q = e ∙ ap (childSeen children w) q
 
 -- also where a step was made before it was read.
-pub half-still : {P : Note} {h : Head} {want : Table × ℕ} {m : Made} {nodes children : List ℕ} {cuts : List ℤ} {memo nodes′ children′ : List ℕ} {cuts′ : List ℤ} {index′ memo′ : List ℕ} → Stepped P h want m nodes children cuts memo nodes′ children′ cuts′ index′ memo′ → (w : View) (low : Bool) {i x : ℕ} → Inside (h .edges) w → x ≡ childSeen children′ w i → i ≡ half (w .count) low → x ≡ childSeen children w (half (w .count) low)
-half-still {h = h} {children = children} {cuts = cuts} {children′ = children′} {cuts′ = cuts′} d w low k e q = half-of children′ w low e q ∙ childSeen-stays children children′ cuts cuts′ 0 (h .edges) w k (d .outcome .stays .child) (half (w .count) low) (half-inside (w .count) (k .some) low)
+pub half-still : {P : Note} {h : Head} {want : Table × ℕ} {m : Made} {st : Store} {memo : List ℕ} {st′ : Store} {index′ memo′ : List ℕ} → Stepped P h want m st memo st′ index′ memo′ → (w : View) (low : Bool) {i x : ℕ} → Inside (h .edges) w → x ≡ childSeen (st′ .children) w i → i ≡ half (w .count) low → x ≡ childSeen (st .children) w (half (w .count) low)
+half-still {h = h} {st = st} {st′ = st′} d w low k e q = half-of (st′ .children) w low e q ∙ childSeen-stays (st .children) (st′ .children) (st .cuts) (st′ .cuts) 0 (h .edges) w k (d .outcome .stays .child) (half (w .count) low) (half-inside (w .count) (k .some) low)
 
-module _ {v n : ℕ} (W : Walk v n) {h : Head} {nodes children : List ℕ} {cuts : List ℤ} {index memo : List ℕ} (r : Ready (W .note) h nodes children cuts index memo) {a b : View} (g : firstBoolean ≤ v)
-    (s : Sides (tableOf h nodes children cuts) (h .edges) children cuts v n a b) (back : Bool) where
+module _ {v n : ℕ} (W : Walk v n) {h : Head} {st : Store} {index memo : List ℕ} (r : Ready (W .note) h st index memo) {a b : View} (g : firstBoolean ≤ v)
+    (s : Sides (tableOf h st) (h .edges) (st .children) (st .cuts) v n a b) (back : Bool) where
   abbrev t : Table
-  t = tableOf h nodes children cuts
+  t = tableOf h st
 
   abbrev P : Bool → ℕ × ℕ
   P = pairAt W (sound-of (r .lent)) g s
@@ -54,23 +55,23 @@ module _ {v n : ℕ} (W : Walk v n) {h : Head} {nodes children : List ℕ} {cuts
   x₂ = second W (sound-of (r .lent)) g s back
 
   abbrev whole : Table × ℕ
-  whole = both back (W .f) t v (seen children cuts v a 0) (seen children cuts v b 0)
+  whole = both back (W .f) t v (seen (st .children) (st .cuts) v a 0) (seen (st .children) (st .cuts) v b 0)
 
   pub first-asked : {x y : ℕ} → x ≡ (P back) .0 → y ≡ (P back) .1 → Asked t (h .used) n x × Asked t (h .used) n y
   first-asked {x} {y} ex ey =
       let k = pair-kids W (sound-of (r .lent)) g s back in
-      (subst (Asked t (h .used) n) (sym ex) (asked-kid h nodes children cuts (s .enough) (k .0)), subst (Asked t (h .used) n) (sym ey) (asked-kid h nodes children cuts (s .enough) (k .1)))
+      (subst (Asked t (h .used) n) (sym ex) (asked-kid h st (s .enough) (k .0)), subst (Asked t (h .used) n) (sym ey) (asked-kid h st (s .enough) (k .1)))
 
-  module _ {m : Made} {nodes′ children′ : List ℕ} {cuts′ : List ℤ} {index′ memo′ : List ℕ} {x y : ℕ} (ex : x ≡ (P back) .0) (ey : y ≡ (P back) .1)
-      (d : Stepped (W .note) h (W .f t (x, y)) m nodes children cuts memo nodes′ children′ cuts′ index′ memo′) where
-    c : Stepped (W .note) h x₁ m nodes children cuts memo nodes′ children′ cuts′ index′ memo′
+  module _ {m : Made} {st′ : Store} {index′ memo′ : List ℕ} {x y : ℕ} (ex : x ≡ (P back) .0) (ey : y ≡ (P back) .1)
+      (d : Stepped (W .note) h (W .f t (x, y)) m st memo st′ index′ memo′) where
+    c : Stepped (W .note) h x₁ m st memo st′ index′ memo′
     c = becomes d (ap₂ (λ (i j : ℕ). W .f t (i, j)) ex ey)
 
-    pub first-fails : m .ok ≡ false → Stepped (W .note) h whole m nodes children cuts memo nodes′ children′ cuts′ index′ memo′
+    pub first-fails : m .ok ≡ false → Stepped (W .note) h whole m st memo st′ index′ memo′
     first-fails bad = fails c bad (first-before W (sound-of (r .lent)) g s back)
 
     abbrev t′ : Table
-    t′ = tableOf (m .head) nodes′ children′ cuts′
+    t′ = tableOf (m .head) st′
 
     pub second-asked : {x′ y′ : ℕ} → x′ ≡ (P (not back)) .0 → y′ ≡ (P (not back)) .1 → Asked t′ (m .head .used) n x′ × Asked t′ (m .head .used) n y′
     second-asked {x′} {y′} ex′ ey′ =
@@ -78,20 +79,20 @@ module _ {v n : ℕ} (W : Walk v n) {h : Head} {nodes children : List ℕ} {cuts
         (subst (Asked t′ (m .head .used) n) (sym ex′) (ask _ (k .0)), subst (Asked t′ (m .head .used) n) (sym ey′) (ask _ (k .1)))
       where
         ask : (i : ℕ) → Child t (suc v) i → Asked t′ (m .head .used) n i
-        ask i j = asked-kid (m .head) nodes′ children′ cuts′ (s .enough) (continues-child (grew r c) (suc v) i j)
+        ask i j = asked-kid (m .head) st′ (s .enough) (continues-child (grew r c) (suc v) i j)
 
-    module _ (good : m .ok ≡ true) {m′ : Made} {nodes″ children″ : List ℕ} {cuts″ : List ℤ} {index″ memo″ : List ℕ} {x′ y′ : ℕ} (ex′ : x′ ≡ (P (not back)) .0) (ey′ : y′ ≡ (P (not back)) .1)
-        (d′ : Stepped (W .note) (m .head) (W .f t′ (x′, y′)) m′ nodes′ children′ cuts′ memo′ nodes″ children″ cuts″ index″ memo″) where
-      both-steps : Stepped (W .note) h x₂ m′ nodes children cuts memo nodes″ children″ cuts″ index″ memo″
+    module _ (good : m .ok ≡ true) {m′ : Made} {st″ : Store} {index″ memo″ : List ℕ} {x′ y′ : ℕ} (ex′ : x′ ≡ (P (not back)) .0) (ey′ : y′ ≡ (P (not back)) .1)
+        (d′ : Stepped (W .note) (m .head) (W .f t′ (x′, y′)) m′ st′ memo′ st″ index″ memo″) where
+      both-steps : Stepped (W .note) h x₂ m′ st memo st″ index″ memo″
       both-steps = then r c (becomes d′ (ap (λ (s : Table). W .f s (x′, y′)) (c .outcome .table good) ∙ ap₂ (λ (i j : ℕ). W .f (x₁ .0) (i, j)) ex′ ey′))
 
-      pub second-fails : m′ .ok ≡ false → Stepped (W .note) h whole m′ nodes children cuts memo nodes″ children″ cuts″ index″ memo″
+      pub second-fails : m′ .ok ≡ false → Stepped (W .note) h whole m′ st memo st″ index″ memo″
       second-fails bad = fails both-steps bad (second-before W (sound-of (r .lent)) g s back)
 
       -- The two answers as the children of the new node, high and low.
       module _ (good′ : m′ .ok ≡ true) {i j : ℕ} (ei : i ≡ high W (sound-of (r .lent)) g s back (m .id .0) (m′ .id .0)) (ej : j ≡ low W (sound-of (r .lent)) g s back (m .id .0) (m′ .id .0)) where
         abbrev t″ : Table
-        t″ = tableOf (m′ .head) nodes″ children″ cuts″
+        t″ = tableOf (m′ .head) st″
 
         is-high : i ≡ high W (sound-of (r .lent)) g s back (x₁ .1) (x₂ .1)
         is-high = ei ∙ ap₂ (high W (sound-of (r .lent)) g s back) (c .outcome .id good) (both-steps .outcome .id good′)
@@ -107,5 +108,5 @@ module _ {v n : ℕ} (W : Walk v n) {h : Head} {nodes children : List ℕ} {cuts
         wanted : create-node t″ v (cut i 1 (last j)) ≡ whole
         wanted = ap₂ (λ (u : Table) (p : Pieces ℕ). create-node u v p) (both-steps .outcome .table good′) (ap₂ (λ (p q : ℕ). cut p 1 (last q)) is-high is-low) ∙ sym (both-halves W (sound-of (r .lent)) g s back)
 
-        pub built-it : {o : Made} {nodes‴ children‴ : List ℕ} {cuts‴ : List ℤ} {index‴ : List ℕ} → Outcome (m′ .head) (create-node t″ v (cut i 1 (last j))) o nodes″ children″ cuts″ nodes‴ children‴ cuts‴ index‴ → Stepped (W .note) h whole o nodes children cuts memo nodes‴ children‴ cuts‴ index‴ memo″
+        pub built-it : {o : Made} {st‴ : Store} {index‴ : List ℕ} → Outcome (m′ .head) (create-node t″ v (cut i 1 (last j))) o st″ st‴ index‴ → Stepped (W .note) h whole o st memo st‴ index‴ memo″
         built-it o = becomes (then-made r both-steps (W .grows) o) wanted

@@ -22,7 +22,7 @@ use Rattle.algebra.specs.Making.{settle, create-node}
 use Rattle.algebra.specs.Conjunction.{walkIn, create-over}
 use Rattle.algebra.proofs.Made.{Made}
 use Rattle.algebra.proofs.Overlays.{reduced-merge, each-merge}
-use Rattle.table.specs.Layout.{room}
+use Rattle.table.specs.Layout.{room, Store}
 use Rattle.table.proofs.Laws.{split, clash}
 use Rattle.merging.proofs.Turning.{turn, tableAt, answerAt, table-next, answer-is, turns, turn-inside, turn-apart, turn-turn, answer-child, full-turn, each-of, rising-of}
 use Rattle.views.specs.declared.View.{View}
@@ -39,9 +39,9 @@ use Rattle.walks.specs.Walking.{Note, Ready, Stepped, Mergeable, NodeOve
 use Rattle.walks.proofs.Composing.{Grows, sound-of, ready-after, then-made, becomes, noted}
 use Rattle.walks.proofs.Booleans.{asked-kid}
 
-module _ (f : Table → ℕ → Table × ℕ) (h : Head) (nodes children : List ℕ) (cuts : List ℤ) (memo : List ℕ) (a : View) (u : ℕ) where
+module _ (f : Table → ℕ → Table × ℕ) (h : Head) (st : Store) (memo : List ℕ) (a : View) (u : ℕ) where
   abbrev t : Table
-  t = tableOf h nodes children cuts
+  t = tableOf h st
 
   abbrev back : Bool
   back = not (isRange u)
@@ -50,54 +50,54 @@ module _ (f : Table → ℕ → Table × ℕ) (h : Head) (nodes children : List 
   n = a .count - 1
 
   abbrev c : ℕ → ℕ
-  c = childSeen children a
+  c = childSeen (st .children) a
 
   abbrev pub want : Table × ℕ
-  want = over back f t u (seen children cuts u a 0)
+  want = over back f t u (seen (st .children) (st .cuts) u a 0)
 
   -- With so many turns left the table is the one of the turns that were, and each answer stands in its child's place; or there was no room.
-  pub record Gather (P : Note) (now : Head) (nodes′ children′ : List ℕ) (cuts′ : List ℤ) (index′ memo′ : List ℕ) (out : built.Edges) (ok : Bool) (left : ℕ) : Type 0 where
-    pub ready : Ready P now nodes′ children′ cuts′ index′ memo′
-    pub stays : Stays h nodes children cuts now nodes′ children′ cuts′
+  pub record Gather (P : Note) (now : Head) (st′ : Store) (index′ memo′ : List ℕ) (out : built.Edges) (ok : Bool) (left : ℕ) : Type 0 where
+    pub ready : Ready P now st′ index′ memo′
+    pub stays : Stays h st now st′
     pub long : length memo′ ≡ length memo
     pub size : length (out .list) ≡ mostEdges
     pub most : left ≤ a .count
-    pub table : ok ≡ true → tableOf now nodes′ children′ cuts′ ≡ tableAt f t back n c (a .count - left)
+    pub table : ok ≡ true → tableOf now st′ ≡ tableAt f t back n c (a .count - left)
     pub child : ok ≡ true → (j : ℕ) → j < a .count - left → childIn out (turn back n j) ≡ answerAt f t back n c j
-    pub cut : ok ≡ true → (j : ℕ) → j < a .count - left → turn back n j < n → cutIn out (turn back n j) ≡ cutSeen cuts u a (turn back n j)
-    pub full : ok ≡ false → (left ≡ 0) × (Fits (room nodes) (length children) (want .0) → ⊥)
+    pub cut : ok ≡ true → (j : ℕ) → j < a .count - left → turn back n j < n → cutIn out (turn back n j) ≡ cutSeen (st .cuts) u a (turn back n j)
+    pub full : ok ≡ false → (left ≡ 0) × (Fits (room (st .nodes)) (length (st .children)) (want .0) → ⊥)
 
   -- The side: a node's edges at its variable.
   pub record Side : Type 0 where
     pub known : u < variables
     pub inside : Inside (h .edges) a
-    pub rises : Rising 0 (topOf u) (seen children cuts u a 0)
-    pub kids : Each (Child t (suc u)) (seen children cuts u a 0)
+    pub rises : Rising 0 (topOf u) (seen (st .children) (st .cuts) u a 0)
+    pub kids : Each (Child t (suc u)) (seen (st .children) (st .cuts) u a 0)
 
-  module _ {P : Note} (grows : Grows P) {index : List ℕ} (r : Ready P h nodes children cuts index memo) (s : Side) (m : ℕ → Assignment → Bool)
+  module _ {P : Note} (grows : Grows P) {index : List ℕ} (r : Ready P h st index memo) (s : Side) (m : ℕ → Assignment → Bool)
       (made : (w : Table) → Sound w → Continues t w → (x : ℕ) → Child t (suc u) x → Made w (suc u) (m x) (f w x)) where
     kid : (i : ℕ) → i ≤ n → Child t (suc u) (c i)
-    kid i l = seen-each children cuts u a (Child t (suc u)) (s .kids) i (omega (arith, s .inside .some))
+    kid i l = seen-each (st .children) (st .cuts) u a (Child t (suc u)) (s .kids) i (omega (arith, s .inside .some))
 
-    seen-rises : Rising 0 (topOf u) (run c (cutSeen cuts u a) 0 n)
+    seen-rises : Rising 0 (topOf u) (run c (cutSeen (st .cuts) u a) 0 n)
     unfolding seen
-    seen-rises = let z : a .count - 1 - 0 ≡ n = omega arith in subst (λ (i : ℕ). Rising 0 (topOf u) (run c (cutSeen cuts u a) 0 i)) z (s .rises)
+    seen-rises = let z : a .count - 1 - 0 ≡ n = omega arith in subst (λ (i : ℕ). Rising 0 (topOf u) (run c (cutSeen (st .cuts) u a) 0 i)) z (s .rises)
 
     -- All answers, each in its child's place, are what the walk gives.
     abbrev answers : ℕ → ℕ
     answers i = answerAt f t back n c (turn back n i)
 
-    walk-is : walkIn back f t (seen children cuts u a 0) ≡ (tableAt f t back n c (suc n), run answers (cutSeen cuts u a) 0 n)
+    walk-is : walkIn back f t (seen (st .children) (st .cuts) u a 0) ≡ (tableAt f t back n c (suc n), run answers (cutSeen (st .cuts) u a) 0 n)
     unfolding seen
     walk-is =
         let z : a .count - 1 - 0 ≡ n = omega arith in
-        ap (λ (i : ℕ). walkIn back f t (run c (cutSeen cuts u a) 0 i)) z ∙ turns f t n c answers (cutSeen cuts u a) back (λ j l. ap (answerAt f t back n c) (turn-turn back n j l))
+        ap (λ (i : ℕ). walkIn back f t (run c (cutSeen (st .cuts) u a) 0 i)) z ∙ turns f t n c answers (cutSeen (st .cuts) u a) back (λ j l. ap (answerAt f t back n c) (turn-turn back n j l))
 
-    want-is : want ≡ create-over u (tableAt f t back n c (suc n), run answers (cutSeen cuts u a) 0 n)
+    want-is : want ≡ create-over u (tableAt f t back n c (suc n), run answers (cutSeen (st .cuts) u a) 0 n)
     unfolding over
     want-is = ap (create-over u) walk-is
 
-    pub gather-starts : (out : built.Edges) → length (out .list) ≡ mostEdges → Gather P h nodes children cuts index memo out true (a .count)
+    pub gather-starts : (out : built.Edges) → length (out .list) ≡ mostEdges → Gather P h st index memo out true (a .count)
     unfolding tableAt
     gather-starts out size =
         let z : a .count - a .count ≡ 0 = omega arith in
@@ -113,10 +113,10 @@ module _ (f : Table → ℕ → Table × ℕ) (h : Head) (nodes children : List 
           full = λ q. absurd (clash q refl);
         }
 
-    module _ {now : Head} {nodes₁ children₁ : List ℕ} {cuts₁ : List ℤ} {index₁ memo₁ : List ℕ} {out : built.Edges} {ok : Bool} {left : ℕ}
-        (l : Gather P now nodes₁ children₁ cuts₁ index₁ memo₁ out ok left) where
+    module _ {now : Head} {st₁ : Store} {index₁ memo₁ : List ℕ} {out : built.Edges} {ok : Bool} {left : ℕ}
+        (l : Gather P now st₁ index₁ memo₁ out ok left) where
       abbrev w : Table
-      w = tableOf now nodes₁ children₁ cuts₁
+      w = tableOf now st₁
 
       module _ (on : 0 < left) {i : ℕ} (ei : i ≡ cond (isRange u) (a .count - left) (left - 1)) where
         abbrev j : ℕ
@@ -143,19 +143,19 @@ module _ (f : Table → ℕ → Table × ℕ) (h : Head) (nodes children : List 
         pub edge-inside : i < a .count
         edge-inside = omega (arith, turn-is, turn-inside back n j here, s .inside .some)
 
-        module _ {x : ℕ} (rx : x ≡ childSeen children₁ a i) where
+        module _ {x : ℕ} (rx : x ≡ childSeen (st₁ .children) a i) where
           ex : x ≡ c (turn back n j)
-          ex = rx ∙ (childSeen-stays children children₁ cuts cuts₁ u (h .edges) a (s .inside) (l .stays .child) i edge-inside ∙ ap c turn-is)
+          ex = rx ∙ (childSeen-stays (st .children) (st₁ .children) (st .cuts) (st₁ .cuts) u (h .edges) a (s .inside) (l .stays .child) i edge-inside ∙ ap c turn-is)
 
           grown : Child w (suc u) x
           grown = subst (Child w (suc u)) (sym ex) (continues-child (continued (r .lent) (l .stays)) (suc u) _ (kid (turn back n j) (turn-inside back n j here)))
 
           -- Its child may be asked about.
           pub kid-asked : {q : ℕ} → variables < suc u + q → Asked w (now .used) q x
-          kid-asked e = asked-kid now nodes₁ children₁ cuts₁ e grown
+          kid-asked e = asked-kid now st₁ e grown
 
-          module _ {k : ℕ} (rk : i + 1 < a .count → k ≡ cutSeen cuts₁ u a i) {d : code.Made} {nodes₂ children₂ : List ℕ} {cuts₂ : List ℤ} {index₂ memo₂ : List ℕ}
-              (e : Stepped P now (f w x) d nodes₁ children₁ cuts₁ memo₁ nodes₂ children₂ cuts₂ index₂ memo₂) {left₂ : ℕ} (el : (d .ok ≡ true → left₂ ≡ left - 1) × (d .ok ≡ false → left₂ ≡ 0)) where
+          module _ {k : ℕ} (rk : i + 1 < a .count → k ≡ cutSeen (st₁ .cuts) u a i) {d : code.Made} {nodes₂ children₂ : List ℕ} {cuts₂ : List ℤ} {index₂ memo₂ : List ℕ}
+              (e : Stepped P now (f w x) d st₁ memo₁ nodes₂ children₂ cuts₂ index₂ memo₂) {left₂ : ℕ} (el : (d .ok ≡ true → left₂ ≡ left - 1) × (d .ok ≡ false → left₂ ≡ 0)) where
             abbrev out₂ : built.Edges
             out₂ = record { list = set (out .list) i (record { cut = k; child = d .id; spare = 0 }); len = out .len }
 
@@ -180,11 +180,11 @@ module _ (f : Table → ℕ → Table × ℕ) (h : Head) (nodes children : List 
                 rw z (ap (childIn out₂) (sym turn-is) ∙ (o ∙ (e .outcome .id good ∙ (ap (λ (y : Table × ℕ). y .1) answer ∙ sym (answer-is f t back n c j)))))
             child-now good p q (no z) = ap (λ (y : Edge). y .child .0) (other p (omega (arith, z))) ∙ l .child still-ok p (omega (arith, z))
 
-            cut-now : (p : ℕ) → p < suc j → turn back n p < n → Dec (p ≡ j) → cutIn out₂ (turn back n p) ≡ cutSeen cuts u a (turn back n p)
+            cut-now : (p : ℕ) → p < suc j → turn back n p < n → Dec (p ≡ j) → cutIn out₂ (turn back n p) ≡ cutSeen (st .cuts) u a (turn back n p)
             cut-now p q b (yes z) =
                 let o : cutIn out₂ i ≡ k = ap (λ (y : Edge). y .cut) put in
                 let g : i + 1 < a .count = omega (arith, turn-is, rw z at b, s .inside .some) in
-                rw z (ap (cutIn out₂) (sym turn-is) ∙ (o ∙ (rk g ∙ (cutSeen-stays children children₁ cuts cuts₁ u (h .edges) a (s .inside) (l .stays .cut) i g ∙ ap (cutSeen cuts u a) turn-is))))
+                rw z (ap (cutIn out₂) (sym turn-is) ∙ (o ∙ (rk g ∙ (cutSeen-stays (st .children) (st₁ .children) (st .cuts) (st₁ .cuts) u (h .edges) a (s .inside) (l .stays .cut) i g ∙ ap (cutSeen (st .cuts) u a) turn-is))))
             cut-now p q b (no z) = ap (λ (y : Edge). y .cut) (other p (omega (arith, z))) ∙ l .cut still-ok p (omega (arith, z)) b
 
             -- One turn of the loop,
@@ -205,13 +205,13 @@ module _ (f : Table → ℕ → Table × ℕ) (h : Head) (nodes children : List 
                 go true g = omega (arith, el .0 g, l .most)
                 go false g = omega (arith, el .1 g)
 
-                moved : {b : Table} → Fits (room nodes) (length children) b → Fits (room nodes₁) (length children₁) b
-                moved {b} z = subst (λ (q : ℕ). Fits q (length children₁) b) (ap (λ (q : ℕ). q / 4) (sym (l .stays .long))) (subst (λ (q : ℕ). Fits (room nodes) q b) (sym (l .stays .wide)) z)
+                moved : {b : Table} → Fits (room (st .nodes)) (length (st .children)) b → Fits (room (st₁ .nodes)) (length (st₁ .children)) b
+                moved {b} z = subst (λ (q : ℕ). Fits q (length (st₁ .children)) b) (ap (λ (q : ℕ). q / 4) (sym (l .stays .long))) (subst (λ (q : ℕ). Fits (room (st .nodes)) q b) (sym (l .stays .wide)) z)
 
-                no-room : d .ok ≡ false → Fits (room nodes) (length children) (want .0) → ⊥
+                no-room : d .ok ≡ false → Fits (room (st .nodes)) (length (st .children)) (want .0) → ⊥
                 no-room bad y =
-                    full-turn f t back n c (sound-of (r .lent)) (suc u) m made kid j here u (run answers (cutSeen cuts u a) 0 n) (room nodes) (length children)
-                    (λ fit. e .outcome .full bad (moved (subst (λ (o : Table × ℕ). Fits (room nodes) (length children) (o .0)) (sym answer) fit))) (subst (λ (o : Table × ℕ). Fits (room nodes) (length children) (o .0)) want-is y)
+                    full-turn f t back n c (sound-of (r .lent)) (suc u) m made kid j here u (run answers (cutSeen (st .cuts) u a) 0 n) (room (st .nodes)) (length (st .children))
+                    (λ fit. e .outcome .full bad (moved (subst (λ (o : Table × ℕ). Fits (room (st .nodes)) (length (st .children)) (o .0)) (sym answer) fit))) (subst (λ (o : Table × ℕ). Fits (room (st .nodes)) (length (st .children)) (o .0)) want-is y)
 
             -- which falls.
             pub gather-falls : left₂ < left
@@ -222,7 +222,7 @@ module _ (f : Table → ℕ → Table × ℕ) (h : Head) (nodes children : List 
                 go false g = omega (arith, el .1 g, on)
 
       -- What is done so far.
-      pub so-far : Stepped P h (w, 0) (record { ok = true; id = record { 0 = 0 }; head = now }) nodes children cuts memo nodes₁ children₁ cuts₁ index₁ memo₁
+      pub so-far : Stepped P h (w, 0) (record { ok = true; id = record { 0 = 0 }; head = now }) st memo st₁ index₁ memo₁
       so-far = record {
         outcome = record { lent = l .ready .lent; stays = l .stays; table = λ q. refl; id = λ q. refl; full = λ q. absurd (clash q refl) };
         long = l .long;
@@ -241,13 +241,13 @@ module _ (f : Table → ℕ → Table × ℕ) (h : Head) (nodes children : List 
           child-at : (i : ℕ) → i ≤ n → childIn out i ≡ answers i
           child-at i b = subst (λ (p : ℕ). childIn out p ≡ answers i) (turn-turn back n i b) (l .child good (turn back n i) (omega (arith, all-turns, turn-inside back n i b)))
 
-          cut-at : (i : ℕ) → i < n → cutIn out i ≡ cutSeen cuts u a i
+          cut-at : (i : ℕ) → i < n → cutIn out i ≡ cutSeen (st .cuts) u a i
           cut-at i b =
               let z = turn-turn back n i (omega arith) in
-              subst (λ (p : ℕ). cutIn out p ≡ cutSeen cuts u a p) z (l .cut good (turn back n i) (omega (arith, all-turns, turn-inside back n i (omega arith))) (omega (arith, z)))
+              subst (λ (p : ℕ). cutIn out p ≡ cutSeen (st .cuts) u a p) z (l .cut good (turn back n i) (omega (arith, all-turns, turn-inside back n i (omega arith))) (omega (arith, z)))
 
-          pieces-are : piecesOf closed ≡ run answers (cutSeen cuts u a) 0 n
-          pieces-are = run-shift (childIn out) answers (cutIn out) (cutSeen cuts u a) 0 0 n
+          pieces-are : piecesOf closed ≡ run answers (cutSeen (st .cuts) u a) 0 n
+          pieces-are = run-shift (childIn out) answers (cutIn out) (cutSeen (st .cuts) u a) 0 0 n
               (λ i b. let y : 0 + i ≡ i = omega arith in rw y (child-at i b))
               (λ i b. let y : 0 + i ≡ i = omega arith in rw y (cut-at i b))
 
@@ -258,9 +258,9 @@ module _ (f : Table → ℕ → Table × ℕ) (h : Head) (nodes children : List 
           can-merge = record {
             building = record { size = l .size; some = s .inside .some; most = s .inside .most };
             known = s .known;
-            rises = subst (Rising 0 (topOf u)) (sym pieces-are) (rising-of c answers (cutSeen cuts u a) 0 (topOf u) 0 n seen-rises);
-            kids = subst (Each (Child w (suc u))) (sym pieces-are) (subst (λ (b : Table). Each (Child b (suc u)) (run answers (cutSeen cuts u a) 0 n)) (sym table-is)
-                (each-of (Child (tableAt f t back n c (suc n)) (suc u)) answers (cutSeen cuts u a) 0 n (λ i p q. answer-child f t back n c (sound-of (r .lent)) (suc u) m made kid (turn back n i) (turn-inside back n i (omega arith)))));
+            rises = subst (Rising 0 (topOf u)) (sym pieces-are) (rising-of c answers (cutSeen (st .cuts) u a) 0 (topOf u) 0 n seen-rises);
+            kids = subst (Each (Child w (suc u))) (sym pieces-are) (subst (λ (b : Table). Each (Child b (suc u)) (run answers (cutSeen (st .cuts) u a) 0 n)) (sym table-is)
+                (each-of (Child (tableAt f t back n c (suc n)) (suc u)) answers (cutSeen (st .cuts) u a) 0 n (λ i p q. answer-child f t back n c (sound-of (r .lent)) (suc u) m made kid (turn back n i) (turn-inside back n i (omega arith)))));
           }
 
           made-is : create-node w u (piecesOf closed) ≡ want
@@ -268,13 +268,13 @@ module _ (f : Table → ℕ → Table × ℕ) (h : Head) (nodes children : List 
 
         -- The node over the answers, and what is noted of it.
         pub gathered : {x : ℕ} → ((t′ : Table) (z : ℕ) → t′ ≡ want .0 → z ≡ want .1 → P t′ x TRUE z) → {o : code.Made} {nodes₂ children₂ : List ℕ} {cuts₂ : List ℤ} {index₂ memo₂ : List ℕ}
-            → NodeOver ok now x u closed nodes₁ children₁ cuts₁ index₁ memo₁ o nodes₂ children₂ cuts₂ index₂ memo₂ → Stepped P h want o nodes children cuts memo nodes₂ children₂ cuts₂ index₂ memo₂
+            → NodeOver ok now x u closed st₁ index₁ memo₁ o nodes₂ children₂ cuts₂ index₂ memo₂ → Stepped P h want o st memo nodes₂ children₂ cuts₂ index₂ memo₂
         gathered {x} note {o} {nodes₂} {children₂} {cuts₂} {index₂} {memo₂} v = go ok refl
           where
-            go : (b : Bool) → ok ≡ b → Stepped P h want o nodes children cuts memo nodes₂ children₂ cuts₂ index₂ memo₂
+            go : (b : Bool) → ok ≡ b → Stepped P h want o st memo nodes₂ children₂ cuts₂ index₂ memo₂
             go true good = last (o .ok) refl (becomes (then-made r so-far grows (v .made good)) (made-is good))
               where
-                last : (b : Bool) → o .ok ≡ b → Stepped P h want o nodes children cuts memo nodes₂ children₂ cuts₂ index₂ memo₁ → Stepped P h want o nodes children cuts memo nodes₂ children₂ cuts₂ index₂ memo₂
+                last : (b : Bool) → o .ok ≡ b → Stepped P h want o st memo nodes₂ children₂ cuts₂ index₂ memo₁ → Stepped P h want o st memo nodes₂ children₂ cuts₂ index₂ memo₂
                 last true y q = noted q (note _ _ (q .outcome .table y) (q .outcome .id y)) (v .noted good y)
                 last false y q = rw (v .not-noted good y) q
             go false bad =
@@ -301,6 +301,6 @@ module _ {b : Table} {v : ℕ} {es : built.Edges} (k : Mergeable b v es) {r : bu
     kids = subst (Each (Child b (suc v))) (sym (e .1)) (each-merge (Child b (suc v)) (piecesOf es) (k .kids));
   }
 
-  pub merged-settles : {h : Head} {o : code.Made} {nodes children : List ℕ} {cuts : List ℤ} {nodes′ children′ : List ℕ} {cuts′ : List ℤ} {index′ : List ℕ}
-      → Outcome h (settle b v (piecesOf r)) o nodes children cuts nodes′ children′ cuts′ index′ → Outcome h (create-node b v (piecesOf es)) o nodes children cuts nodes′ children′ cuts′ index′
-  merged-settles {h} {o} {nodes} {children} {cuts} {nodes′} {children′} {cuts′} {index′} x = subst (λ (p : Pieces ℕ). Outcome h (settle b v p) o nodes children cuts nodes′ children′ cuts′ index′) (e .1) x
+  pub merged-settles : {h : Head} {o : code.Made} {st : Store} {st′ : Store} {index′ : List ℕ}
+      → Outcome h (settle b v (piecesOf r)) o st st′ index′ → Outcome h (create-node b v (piecesOf es)) o st st′ index′
+  merged-settles {h} {o} {st} {st′} {index′} x = subst (λ (p : Pieces ℕ). Outcome h (settle b v p) o st st′ index′) (e .1) x

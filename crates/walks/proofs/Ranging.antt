@@ -22,7 +22,7 @@ use Rattle.algebra.specs.Making.{settle}
 use Rattle.algebra.specs.Conjunction.{walk, walkIn, create-over}
 use Rattle.algebra.proofs.Overlays.{rising-overlay, each-overlay, reduced-merge, each-merge}
 use Rattle.algebra.proofs.Walking.{Walked, walked}
-use Rattle.table.specs.Layout.{room}
+use Rattle.table.specs.Layout.{room, Store}
 use Rattle.table.proofs.Laws.{split, clash}
 use Rattle.merging.proofs.Gluing.{Slot, next, again, Put}
 use Rattle.merging.proofs.Stepping.{Going, going-none, going-less, going-same, going-more, going-last-cut, going-cut-last, going-last, going-over}
@@ -50,18 +50,18 @@ CutRead cuts w j k = (j + 1 < w .count → k ≡ cutSeen cuts 0 w j) × (w .coun
 abbrev pub still : View → View → ℕ → ℕ → Bool → ℕ
 still a b i j more = cond more (suc ((a .count - i) + (b .count - j))) 0
 
-module _ {v n : ℕ} (W : Walk v n) (h : Head) (nodes children : List ℕ) (cuts : List ℤ) (memo : List ℕ) (a b : View) where
+module _ {v n : ℕ} (W : Walk v n) (h : Head) (st : Store) (memo : List ℕ) (a b : View) where
   abbrev t : Table
-  t = tableOf h nodes children cuts
+  t = tableOf h st
 
   abbrev f : Table → ℕ × ℕ → Table × ℕ
   f = W .f
 
   abbrev whole : Table × Pieces ℕ
-  whole = walk f t (overlay (seen children cuts v a 0) (seen children cuts v b 0))
+  whole = walk f t (overlay (seen (st .children) (st .cuts) v a 0) (seen (st .children) (st .cuts) v b 0))
 
   abbrev pub want : Table × ℕ
-  want = both false f t v (seen children cuts v a 0) (seen children cuts v b 0)
+  want = both false f t v (seen (st .children) (st .cuts) v a 0) (seen (st .children) (st .cuts) v b 0)
 
   -- The next overlap is that of edges i and j; `len` edges are built.
   pub record At (u : Table) (out : built.Edges) (final : NodeId) (len i j : ℕ) : Type 0 where
@@ -69,9 +69,9 @@ module _ {v n : ℕ} (W : Walk v n) (h : Head) (nodes children : List ℕ) (cuts
     pub right-in : j < b .count
     pub most : len ≤ mostEdges
     pub last-is : 0 < len → final .0 ≡ childIn out (len - 1)
-    pub left-kids : Each (Child t (suc v)) (seen children cuts v a i)
-    pub right-kids : Each (Child t (suc v)) (seen children cuts v b j)
-    pub going : Going f whole u (childIn out) (cutIn out) len (seen children cuts v a i) (seen children cuts v b j)
+    pub left-kids : Each (Child t (suc v)) (seen (st .children) (st .cuts) v a i)
+    pub right-kids : Each (Child t (suc v)) (seen (st .children) (st .cuts) v b j)
+    pub going : Going f whole u (childIn out) (cutIn out) len (seen (st .children) (st .cuts) v a i) (seen (st .children) (st .cuts) v b j)
 
   -- All are built.
   pub record Built (u : Table) (out : built.Edges) (len : ℕ) : Type 0 where
@@ -81,17 +81,17 @@ module _ {v n : ℕ} (W : Walk v n) (h : Head) (nodes children : List ℕ) (cuts
     pub pieces : run (childIn out) (cutIn out) 0 (len - 1) ≡ merge (whole .1)
 
   -- What the loop keeps: while there is more, where it stands; else what is built, or that there is no room.
-  pub record Loop (now : Head) (nodes′ children′ : List ℕ) (cuts′ : List ℤ) (index′ memo′ : List ℕ) (out : built.Edges) (final : NodeId) (len i j : ℕ) (ok more : Bool) : Type 0 where
-    pub ready : Ready (W .note) now nodes′ children′ cuts′ index′ memo′
-    pub stays : Stays h nodes children cuts now nodes′ children′ cuts′
+  pub record Loop (now : Head) (st′ : Store) (index′ memo′ : List ℕ) (out : built.Edges) (final : NodeId) (len i j : ℕ) (ok more : Bool) : Type 0 where
+    pub ready : Ready (W .note) now st′ index′ memo′
+    pub stays : Stays h st now st′
     pub long : length memo′ ≡ length memo
     pub size : length (out .list) ≡ mostEdges
-    pub at : more ≡ true → At (tableOf now nodes′ children′ cuts′) out final len i j
-    pub built-all : more ≡ false → ok ≡ true → Built (tableOf now nodes′ children′ cuts′) out len
-    pub full : more ≡ false → ok ≡ false → Fits (room nodes) (length children) (want .0) → ⊥
+    pub at : more ≡ true → At (tableOf now st′) out final len i j
+    pub built-all : more ≡ false → ok ≡ true → Built (tableOf now st′) out len
+    pub full : more ≡ false → ok ≡ false → Fits (room (st .nodes)) (length (st .children)) (want .0) → ⊥
 
-  module _ {index : List ℕ} (r : Ready (W .note) h nodes children cuts index memo) (s : Sides t (h .edges) children cuts v n a b) (range : v < firstBoolean) where
-    pub loop-starts : (out : built.Edges) → length (out .list) ≡ mostEdges → (final : NodeId) → Loop h nodes children cuts index memo out final 0 0 0 true true
+  module _ {index : List ℕ} (r : Ready (W .note) h st index memo) (s : Sides t (h .edges) (st .children) (st .cuts) v n a b) (range : v < firstBoolean) where
+    pub loop-starts : (out : built.Edges) → length (out .list) ≡ mostEdges → (final : NodeId) → Loop h st index memo out final 0 0 0 true true
     loop-starts out size final = record {
       ready = r;
       stays = stays-here;
@@ -102,44 +102,44 @@ module _ {v n : ℕ} (W : Walk v n) (h : Head) (nodes children : List ℕ) (cuts
       full = λ q. absurd (clash q refl);
     }
 
-    module _ {now : Head} {nodes₁ children₁ : List ℕ} {cuts₁ : List ℤ} {index₁ memo₁ : List ℕ} {out : built.Edges} {final : NodeId} {len i j : ℕ} {ok more : Bool}
-        (l : Loop now nodes₁ children₁ cuts₁ index₁ memo₁ out final len i j ok more) where
+    module _ {now : Head} {st₁ : Store} {index₁ memo₁ : List ℕ} {out : built.Edges} {final : NodeId} {len i j : ℕ} {ok more : Bool}
+        (l : Loop now st₁ index₁ memo₁ out final len i j ok more) where
       abbrev u : Table
-      u = tableOf now nodes₁ children₁ cuts₁
+      u = tableOf now st₁
 
       module _ (on : more ≡ true) where
         abbrev here : At u out final len i j
         here = l .at on
 
-        module _ {x y : ℕ} (rx : x ≡ childSeen children₁ a i) (ry : y ≡ childSeen children₁ b j) where
-          ex : x ≡ childSeen children a i
-          ex = rx ∙ childSeen-stays children children₁ cuts cuts₁ v (h .edges) a (s .left) (l .stays .child) i (here .left-in)
+        module _ {x y : ℕ} (rx : x ≡ childSeen (st₁ .children) a i) (ry : y ≡ childSeen (st₁ .children) b j) where
+          ex : x ≡ childSeen (st .children) a i
+          ex = rx ∙ childSeen-stays (st .children) (st₁ .children) (st .cuts) (st₁ .cuts) v (h .edges) a (s .left) (l .stays .child) i (here .left-in)
 
-          ey : y ≡ childSeen children b j
-          ey = ry ∙ childSeen-stays children children₁ cuts cuts₁ v (h .edges) b (s .right) (l .stays .child) j (here .right-in)
+          ey : y ≡ childSeen (st .children) b j
+          ey = ry ∙ childSeen-stays (st .children) (st₁ .children) (st .cuts) (st₁ .cuts) v (h .edges) b (s .right) (l .stays .child) j (here .right-in)
 
-          first-kid : (w : View) (p : ℕ) → p < w .count → Each (Child t (suc v)) (seen children cuts v w p) → Child t (suc v) (childSeen children w p)
-          first-kid w p k e = ⊎-elim (λ g. subst (Each (Child t (suc v))) (seen-cut children cuts v w p g) e .0) (λ g. subst (Each (Child t (suc v))) (seen-last children cuts v w p (omega arith)) e) (split (p + 1) (w .count))
+          first-kid : (w : View) (p : ℕ) → p < w .count → Each (Child t (suc v)) (seen (st .children) (st .cuts) v w p) → Child t (suc v) (childSeen (st .children) w p)
+          first-kid w p k e = ⊎-elim (λ g. subst (Each (Child t (suc v))) (seen-cut (st .children) (st .cuts) v w p g) e .0) (λ g. subst (Each (Child t (suc v))) (seen-last (st .children) (st .cuts) v w p (omega arith)) e) (split (p + 1) (w .count))
 
           kid-now : (c : ℕ) → Child t (suc v) c → Child u (suc v) c
           kid-now c k = continues-child (continued (r .lent) (l .stays)) (suc v) c k
 
           pub both-asked : Asked u (now .used) n x × Asked u (now .used) n y
           both-asked = (
-            asked-kid now nodes₁ children₁ cuts₁ (s .enough) (subst (Child u (suc v)) (sym ex) (kid-now _ (first-kid a i (here .left-in) (here .left-kids)))),
-            asked-kid now nodes₁ children₁ cuts₁ (s .enough) (subst (Child u (suc v)) (sym ey) (kid-now _ (first-kid b j (here .right-in) (here .right-kids)))),
+            asked-kid now st₁ (s .enough) (subst (Child u (suc v)) (sym ex) (kid-now _ (first-kid a i (here .left-in) (here .left-kids)))),
+            asked-kid now st₁ (s .enough) (subst (Child u (suc v)) (sym ey) (kid-now _ (first-kid b j (here .right-in) (here .right-kids)))),
           )
 
-          module _ {k q : ℕ} (rk : CutRead cuts₁ a i k) (rq : CutRead cuts₁ b j q) {m : Made} {nodes₂ children₂ : List ℕ} {cuts₂ : List ℤ} {index₂ memo₂ : List ℕ}
-              (d : Stepped (W .note) now (f u (x, y)) m nodes₁ children₁ cuts₁ memo₁ nodes₂ children₂ cuts₂ index₂ memo₂) {slot₀ : ℕ}
+          module _ {k q : ℕ} (rk : CutRead (st₁ .cuts) a i k) (rq : CutRead (st₁ .cuts) b j q) {m : Made} {nodes₂ children₂ : List ℕ} {cuts₂ : List ℤ} {index₂ memo₂ : List ℕ}
+              (d : Stepped (W .note) now (f u (x, y)) m st₁ memo₁ nodes₂ children₂ cuts₂ index₂ memo₂) {slot₀ : ℕ}
               (sf : (0 < len → final .0 ≡ m .id .0 → slot₀ ≡ len - 1) × ((0 < len → final .0 ≡ m .id .0 → ⊥) → slot₀ ≡ len)) where
             abbrev pair : ℕ × ℕ
-            pair = (childSeen children a i, childSeen children b j)
+            pair = (childSeen (st .children) a i, childSeen (st .children) b j)
 
             abbrev answer : Table × ℕ
             answer = f u pair
 
-            c : Stepped (W .note) now answer m nodes₁ children₁ cuts₁ memo₁ nodes₂ children₂ cuts₂ index₂ memo₂
+            c : Stepped (W .note) now answer m st₁ memo₁ nodes₂ children₂ cuts₂ index₂ memo₂
             c = becomes d (ap₂ (λ (p q : ℕ). f u (p, q)) ex ey)
 
             abbrev u₂ : Table
@@ -149,12 +149,12 @@ module _ {v n : ℕ} (W : Walk v n) (h : Head) (nodes children : List ℕ) (cuts
             top-is : topOf v < beyond
             top-is = rw (lt-ltb v firstBoolean range) (omega arith)
 
-            own : (w : View) → Inside (h .edges) w → Rising 0 (topOf v) (seen children cuts v w 0) → (p z : ℕ) → CutRead cuts₁ w p z → p + 1 < w .count → (z ≡ cutSeen cuts v w p) × (z < beyond)
+            own : (w : View) → Inside (h .edges) w → Rising 0 (topOf v) (seen (st .children) (st .cuts) v w 0) → (p z : ℕ) → CutRead (st₁ .cuts) w p z → p + 1 < w .count → (z ≡ cutSeen (st .cuts) v w p) × (z < beyond)
             own w ins rise p z rz g =
-                let e : z ≡ cutSeen cuts v w p = rz .0 g ∙ (cutSeen-stays children children₁ cuts cuts₁ 0 (h .edges) w ins (l .stays .cut) p g ∙ sym (cutSeen-range cuts v w p range)) in
-                (e, omega (arith, e, rising-cut children cuts v w (topOf v) rise p g .1, top-is))
+                let e : z ≡ cutSeen (st .cuts) v w p = rz .0 g ∙ (cutSeen-stays (st .children) (st₁ .children) (st .cuts) (st₁ .cuts) 0 (h .edges) w ins (l .stays .cut) p g ∙ sym (cutSeen-range (st .cuts) v w p range)) in
+                (e, omega (arith, e, rising-cut (st .children) (st .cuts) v w (topOf v) rise p g .1, top-is))
 
-            real : (w : View) (p z : ℕ) → CutRead cuts₁ w p z → z < beyond → p + 1 < w .count
+            real : (w : View) (p z : ℕ) → CutRead (st₁ .cuts) w p z → z < beyond → p + 1 < w .count
             real w p z rz g = ⊎-elim (λ e. e) (λ e. absurd (omega (arith, rz .1 e))) (split (p + 1) (w .count))
 
             -- the slot
@@ -183,8 +183,8 @@ module _ {v n : ℕ} (W : Walk v n) (h : Head) (nodes children : List ℕ) (cuts
               cut-put : cutIn out₂ slot ≡ z
               cut-put = ap (λ (i : Edge). i .cut) (getD-set-same (out .list) slot (record { cut = z; child = m .id; spare = 0 }) none (omega (arith, l .size)))
 
-              at-next : m .ok ≡ true → (i₂ j₂ : ℕ) → i₂ < a .count → j₂ < b .count → Each (Child t (suc v)) (seen children cuts v a i₂) → Each (Child t (suc v)) (seen children cuts v b j₂)
-                  → Going f whole (answer .0) (childIn out₂) (cutIn out₂) (slot + 1) (seen children cuts v a i₂) (seen children cuts v b j₂) → At u₂ out₂ (m .id) (slot + 1) i₂ j₂
+              at-next : m .ok ≡ true → (i₂ j₂ : ℕ) → i₂ < a .count → j₂ < b .count → Each (Child t (suc v)) (seen (st .children) (st .cuts) v a i₂) → Each (Child t (suc v)) (seen (st .children) (st .cuts) v b j₂)
+                  → Going f whole (answer .0) (childIn out₂) (cutIn out₂) (slot + 1) (seen (st .children) (st .cuts) v a i₂) (seen (st .children) (st .cuts) v b j₂) → At u₂ out₂ (m .id) (slot + 1) i₂ j₂
               at-next good i₂ j₂ li lj ki kj g = record {
                 left-in = li;
                 right-in = lj;
@@ -192,11 +192,11 @@ module _ {v n : ℕ} (W : Walk v n) (h : Head) (nodes children : List ℕ) (cuts
                 last-is = λ p. let e : slot + 1 - 1 ≡ slot = omega arith in sym (ap (childIn out₂) e ∙ ap (λ (i : Edge). i .child .0) (getD-set-same (out .list) slot (record { cut = z; child = m .id; spare = 0 }) none (omega (arith, l .size))));
                 left-kids = ki;
                 right-kids = kj;
-                going = subst (λ (s : Table). Going f whole s (childIn out₂) (cutIn out₂) (slot + 1) (seen children cuts v a i₂) (seen children cuts v b j₂)) (sym (c .outcome .table good)) g;
+                going = subst (λ (s : Table). Going f whole s (childIn out₂) (cutIn out₂) (slot + 1) (seen (st .children) (st .cuts) v a i₂) (seen (st .children) (st .cuts) v b j₂)) (sym (c .outcome .table good)) g;
               }
 
               loop-next : (i₂ j₂ : ℕ) (ok₂ more₂ : Bool) → (more₂ ≡ true → At u₂ out₂ (m .id) (slot + 1) i₂ j₂) → (more₂ ≡ false → ok₂ ≡ true → Built u₂ out₂ (slot + 1))
-                  → (more₂ ≡ false → ok₂ ≡ false → Fits (room nodes) (length children) (want .0) → ⊥) → Loop (m .head) nodes₂ children₂ cuts₂ index₂ memo₂ out₂ (m .id) (slot + 1) i₂ j₂ ok₂ more₂
+                  → (more₂ ≡ false → ok₂ ≡ false → Fits (room (st .nodes)) (length (st .children)) (want .0) → ⊥) → Loop (m .head) nodes₂ children₂ cuts₂ index₂ memo₂ out₂ (m .id) (slot + 1) i₂ j₂ ok₂ more₂
               loop-next i₂ j₂ ok₂ more₂ p q r = record {
                 ready = ready-after (l .ready) c;
                 stays = stays-trans (l .stays) (c .outcome .stays);
@@ -209,20 +209,20 @@ module _ {v n : ℕ} (W : Walk v n) (h : Head) (nodes children : List ℕ) (cuts
 
             -- The sides, as cuts or last edges.
             module _ (w : View) (p : ℕ) (inn : p < w .count) where
-              as-cut : p + 1 < w .count → seen children cuts v w p ≡ cut (childSeen children w p) (cutSeen cuts v w p) (seen children cuts v w (p + 1))
-              as-cut g = seen-cut children cuts v w p g
+              as-cut : p + 1 < w .count → seen (st .children) (st .cuts) v w p ≡ cut (childSeen (st .children) w p) (cutSeen (st .cuts) v w p) (seen (st .children) (st .cuts) v w (p + 1))
+              as-cut g = seen-cut (st .children) (st .cuts) v w p g
 
-              as-last : w .count ≤ p + 1 → seen children cuts v w p ≡ last (childSeen children w p)
-              as-last g = seen-last children cuts v w p (omega arith)
+              as-last : w .count ≤ p + 1 → seen (st .children) (st .cuts) v w p ≡ last (childSeen (st .children) w p)
+              as-last g = seen-last (st .children) (st .cuts) v w p (omega arith)
 
-              kids-on : p + 1 < w .count → Each (Child t (suc v)) (seen children cuts v w p) → Each (Child t (suc v)) (seen children cuts v w (p + 1))
+              kids-on : p + 1 < w .count → Each (Child t (suc v)) (seen (st .children) (st .cuts) v w p) → Each (Child t (suc v)) (seen (st .children) (st .cuts) v w (p + 1))
               kids-on g e = subst (Each (Child t (suc v))) (as-cut g) e .1
 
             abbrev A : ℕ → Pieces ℕ
-            A p = seen children cuts v a p
+            A p = seen (st .children) (st .cuts) v a p
 
             abbrev B : ℕ → Pieces ℕ
-            B p = seen children cuts v b p
+            B p = seen (st .children) (st .cuts) v b p
 
             abbrev G : Pieces ℕ → Pieces ℕ → Type 0
             G e g = Going f whole u (childIn out) (cutIn out) len e g
@@ -248,7 +248,7 @@ module _ {v n : ℕ} (W : Walk v n) (h : Head) (nodes children : List ℕ) (cuts
                 gi : i + 1 < a .count
                 gi = real a i k rk (omega (arith, rq .2))
 
-                ka : k ≡ cutSeen cuts v a i
+                ka : k ≡ cutSeen (st .cuts) v a i
                 ka = own a (s .left) (s .left-rises) i k rk gi .0
 
                 N : Pieces ℕ → Pieces ℕ → Type 0
@@ -266,7 +266,7 @@ module _ {v n : ℕ} (W : Walk v n) (h : Head) (nodes children : List ℕ) (cuts
                 gj : j + 1 < b .count
                 gj = real b j q rq (omega (arith, rk .2))
 
-                qb : q ≡ cutSeen cuts v b j
+                qb : q ≡ cutSeen (st .cuts) v b j
                 qb = own b (s .right) (s .right-rises) j q rq gj .0
 
                 N : Pieces ℕ → Pieces ℕ → Type 0
@@ -276,7 +276,7 @@ module _ {v n : ℕ} (W : Walk v n) (h : Head) (nodes children : List ℕ) (cuts
             step-both : (good : m .ok ≡ true) (fits : slot₀ < mostEdges) → k ≡ q → k < beyond → At u₂ (out₂ slot₀ k fits) (m .id) (slot₀ + 1) (i + 1) (j + 1)
             step-both good fits e inner = at-next slot₀ k fits good (i + 1) (j + 1) gi gj (kids-on a i li gi (here .left-kids)) (kids-on b j lj gj (here .right-kids))
                 (going-same f whole u (childIn out) (cutIn out) _ _ len slot₀ _ _ _ _ _ _ (moved (as-cut a i li gi) (as-cut b j lj gj) (here .going)) (put slot₀ k fits good refl) (topOf v) level-cuts
-                (subst (λ (x : ℕ). Rising x (topOf v) (B (j + 1))) (sym level-cuts) (rising-cut children cuts v b (topOf v) (s .right-rises) j gj .2)) (cut-put slot₀ k fits ∙ ka))
+                (subst (λ (x : ℕ). Rising x (topOf v) (B (j + 1))) (sym level-cuts) (rising-cut (st .children) (st .cuts) v b (topOf v) (s .right-rises) j gj .2)) (cut-put slot₀ k fits ∙ ka))
               where
                 gi : i + 1 < a .count
                 gi = real a i k rk inner
@@ -284,10 +284,10 @@ module _ {v n : ℕ} (W : Walk v n) (h : Head) (nodes children : List ℕ) (cuts
                 gj : j + 1 < b .count
                 gj = real b j q rq (omega (arith, e))
 
-                ka : k ≡ cutSeen cuts v a i
+                ka : k ≡ cutSeen (st .cuts) v a i
                 ka = own a (s .left) (s .left-rises) i k rk gi .0
 
-                level-cuts : cutSeen cuts v a i ≡ cutSeen cuts v b j
+                level-cuts : cutSeen (st .cuts) v a i ≡ cutSeen (st .cuts) v b j
                 level-cuts = sym ka ∙ (e ∙ own b (s .right) (s .right-rises) j q rq gj .0)
 
             -- Both sides are at their last edges.
@@ -297,14 +297,14 @@ module _ {v n : ℕ} (W : Walk v n) (h : Head) (nodes children : List ℕ) (cuts
                 let w : slot₀ + 1 - 1 ≡ slot₀ = omega arith in
                 record { some = omega arith; most = omega arith; table = c .outcome .table good ∙ x .0; pieces = ap (run (childIn (out₂ slot₀ k fits)) (cutIn (out₂ slot₀ k fits)) 0) w ∙ x .1 }
               where
-                end : (w : View) → Inside (h .edges) w → Rising 0 (topOf v) (seen children cuts v w 0) → (p z : ℕ) → CutRead cuts₁ w p z → beyond ≤ z → w .count ≤ p + 1
+                end : (w : View) → Inside (h .edges) w → Rising 0 (topOf v) (seen (st .children) (st .cuts) v w 0) → (p z : ℕ) → CutRead (st₁ .cuts) w p z → beyond ≤ z → w .count ≤ p + 1
                 end w ins rise p z rz g = ⊎-elim (λ y. absurd (omega (arith, own w ins rise p z rz y .1))) (λ y. y) (split (p + 1) (w .count))
 
             -- There is no room for the children, or no slot.
             kids-over : Each (λ (p : ℕ × ℕ). Child t (suc v) (p .0) × Child t (suc v) (p .1)) (overlay (A i) (B j))
             kids-over = each-overlay (Child t (suc v)) (Child t (suc v)) (A i) (B j) (here .left-kids) (here .right-kids)
 
-            first-is : (w : View) (p : ℕ) → p < w .count → first (seen children cuts v w p) ≡ childSeen children w p
+            first-is : (w : View) (p : ℕ) → p < w .count → first (seen (st .children) (st .cuts) v w p) ≡ childSeen (st .children) w p
             first-is w p g = ⊎-elim (λ y. ap first (as-cut w p g y)) (λ y. ap first (as-last w p g y)) (split (p + 1) (w .count))
 
             first-pair : f u (first (A i), first (B j)) ≡ answer
@@ -314,16 +314,16 @@ module _ {v n : ℕ} (W : Walk v n) (h : Head) (nodes children : List ℕ) (cuts
             unfolding both walkIn
             same-want = refl
 
-            no-child : m .ok ≡ false → Fits (room nodes) (length children) (want .0) → ⊥
+            no-child : m .ok ≡ false → Fits (room (st .nodes)) (length (st .children)) (want .0) → ⊥
             no-child bad y = full-child f t (suc v) (λ p. Child t (suc v) (p .0) × Child t (suc v) (p .1)) (W .m t) (W .made (s .enough) t (sound-of (r .lent))) whole u (sound-of (l .ready .lent)) (continued (r .lent) (l .stays))
-                (childIn out) (cutIn out) len (A i) (B j) kids-over (here .going) v (room nodes) (length children)
-                (λ z. c .outcome .full bad (moved-fits (subst (λ (w : Table × ℕ). Fits (room nodes) (length children) (w .0)) first-pair z))) (subst (Fits (room nodes) (length children)) same-want y)
+                (childIn out) (cutIn out) len (A i) (B j) kids-over (here .going) v (room (st .nodes)) (length (st .children))
+                (λ z. c .outcome .full bad (moved-fits (subst (λ (w : Table × ℕ). Fits (room (st .nodes)) (length (st .children)) (w .0)) first-pair z))) (subst (Fits (room (st .nodes)) (length (st .children))) same-want y)
               where
-                moved-fits : Fits (room nodes) (length children) (answer .0) → Fits (room nodes₁) (length children₁) (answer .0)
-                moved-fits z = subst (λ (x : ℕ). Fits x (length children₁) (answer .0)) (ap (λ (x : ℕ). x / 4) (sym (l .stays .long))) (subst (λ (x : ℕ). Fits (room nodes) x (answer .0)) (sym (l .stays .wide)) z)
+                moved-fits : Fits (room (st .nodes)) (length (st .children)) (answer .0) → Fits (room (st₁ .nodes)) (length (st₁ .children)) (answer .0)
+                moved-fits z = subst (λ (x : ℕ). Fits x (length (st₁ .children)) (answer .0)) (ap (λ (x : ℕ). x / 4) (sym (l .stays .long))) (subst (λ (x : ℕ). Fits (room (st .nodes)) x (answer .0)) (sym (l .stays .wide)) z)
 
-            no-slot : m .ok ≡ true → mostEdges ≤ slot₀ → Fits (room nodes) (length children) (want .0) → ⊥
-            no-slot good over y = full-wide (whole .0) v (whole .1) (room nodes) (length children) (omega (arith, going-over f whole u (childIn out) (cutIn out) len (A i) (B j) (here .going) other, len-is)) (subst (Fits (room nodes) (length children)) same-want y)
+            no-slot : m .ok ≡ true → mostEdges ≤ slot₀ → Fits (room (st .nodes)) (length (st .children)) (want .0) → ⊥
+            no-slot good over y = full-wide (whole .0) v (whole .1) (room (st .nodes)) (length (st .children)) (omega (arith, going-over f whole u (childIn out) (cutIn out) len (A i) (B j) (here .going) other, len-is)) (subst (Fits (room (st .nodes)) (length (st .children))) same-want y)
               where
                 fresh : 0 < len → final .0 ≡ m .id .0 → ⊥
                 fresh g e = omega (arith, sf .0 g e, here .most)
@@ -351,7 +351,7 @@ module _ {v n : ℕ} (W : Walk v n) (h : Head) (nodes children : List ℕ) (cuts
             unfolding slot-inside
             loop-step (stopped x) = loop-next 0 0 (omega arith) (i + 0) (j + 0) false false (λ e. absurd (clash refl e)) (λ e o. absurd (clash refl o)) (λ e o. go (m .ok) refl)
               where
-                go : (good : Bool) → m .ok ≡ good → Fits (room nodes) (length children) (want .0) → ⊥
+                go : (good : Bool) → m .ok ≡ good → Fits (room (st .nodes)) (length (st .children)) (want .0) → ⊥
                 go true e = no-slot e (x e)
                 go false e = no-child e
             loop-step (left good fits near) = loop-next slot₀ k fits (i + 1) (j + 0) true true (λ e. let w : j ≡ j + 0 = omega arith in subst (At u₂ (out₂ slot₀ k fits) (m .id) (slot₀ + 1) (i + 1)) w (step-left good fits near)) (λ e. absurd (clash e refl)) (λ e. absurd (clash e refl))
@@ -370,7 +370,7 @@ module _ {v n : ℕ} (W : Walk v n) (h : Head) (nodes children : List ℕ) (cuts
                 go false = omega arith
 
       -- What is done so far.
-      pub so-far : Stepped (W .note) h (u, 0) (record { ok = true; id = record { 0 = 0 }; head = now }) nodes children cuts memo nodes₁ children₁ cuts₁ index₁ memo₁
+      pub so-far : Stepped (W .note) h (u, 0) (record { ok = true; id = record { 0 = 0 }; head = now }) st memo st₁ index₁ memo₁
       so-far = record {
         outcome = record { lent = l .ready .lent; stays = l .stays; table = λ e. refl; id = λ e. refl; full = λ e. absurd (clash e refl) };
         long = l .long;
@@ -379,7 +379,7 @@ module _ {v n : ℕ} (W : Walk v n) (h : Head) (nodes children : List ℕ) (cuts
 
       -- The loop is left.
       module _ (off : more ≡ false) where
-        pub merged-no : ok ≡ false → (id : NodeId) → Stepped (W .note) h want (record { ok = false; id = id; head = now }) nodes children cuts memo nodes₁ children₁ cuts₁ index₁ memo₁
+        pub merged-no : ok ≡ false → (id : NodeId) → Stepped (W .note) h want (record { ok = false; id = id; head = now }) st memo st₁ index₁ memo₁
         merged-no bad id = record {
           outcome = record { lent = l .ready .lent; stays = l .stays; table = λ e. absurd (clash refl e); id = λ e. absurd (clash refl e); full = λ e. l .full off bad };
           long = l .long;
@@ -393,9 +393,9 @@ module _ {v n : ℕ} (W : Walk v n) (h : Head) (nodes children : List ℕ) (cuts
           abbrev closed : built.Edges
           closed = record { list = out .list; len = len }
 
-          walk-made : Walked t (suc v) (W .m t) (overlay (seen children cuts v a 0) (seen children cuts v b 0)) whole
+          walk-made : Walked t (suc v) (W .m t) (overlay (seen (st .children) (st .cuts) v a 0) (seen (st .children) (st .cuts) v b 0)) whole
           walk-made = walked f t (suc v) (λ p. Child t (suc v) (p .0) × Child t (suc v) (p .1)) (W .m t) (W .made (s .enough) t (sound-of (r .lent))) t (sound-of (r .lent)) same _
-              (each-overlay (Child t (suc v)) (Child t (suc v)) (seen children cuts v a 0) (seen children cuts v b 0) (s .left-kids) (s .right-kids))
+              (each-overlay (Child t (suc v)) (Child t (suc v)) (seen (st .children) (st .cuts) v a 0) (seen (st .children) (st .cuts) v b 0) (s .left-kids) (s .right-kids))
 
           pub can-close : Buildable u v closed
           can-close = record {
@@ -409,5 +409,5 @@ module _ {v n : ℕ} (W : Walk v n) (h : Head) (nodes children : List ℕ) (cuts
           unfolding both walkIn
           wanted = ap₂ (λ (x : Table) (p : Pieces ℕ). settle x v p) (done .table) (done .pieces)
 
-          pub closed-it : {o : Made} {nodes₂ children₂ : List ℕ} {cuts₂ : List ℤ} {index₂ : List ℕ} → Outcome now (settle u v (piecesOf closed)) o nodes₁ children₁ cuts₁ nodes₂ children₂ cuts₂ index₂ → Stepped (W .note) h want o nodes children cuts memo nodes₂ children₂ cuts₂ index₂ memo₁
+          pub closed-it : {o : Made} {nodes₂ children₂ : List ℕ} {cuts₂ : List ℤ} {index₂ : List ℕ} → Outcome now (settle u v (piecesOf closed)) o st₁ nodes₂ children₂ cuts₂ index₂ → Stepped (W .note) h want o st memo nodes₂ children₂ cuts₂ index₂ memo₁
           closed-it o = becomes (then-made r so-far (W .grows) o) wanted

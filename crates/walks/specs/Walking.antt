@@ -14,7 +14,7 @@ use Rattle.diagram.specs.Sound.{Child}
 use Rattle.algebra.specs.Overlay.{overlay}
 use Rattle.algebra.specs.Making.{create-node}
 use Rattle.algebra.specs.Conjunction.{walkIn, create-over}
-use Rattle.table.specs.Layout.{room}
+use Rattle.table.specs.Layout.{room, Store}
 use Rattle.making.specs.declared.edges.Edges as built
 use Rattle.making.specs.declared.nodes.Head.{Head}
 use Rattle.making.specs.declared.nodes.Made.{Made}
@@ -29,16 +29,16 @@ abbrev pub Note : Type 1
 Note = Table → ℕ → ℕ → ℕ → Type 0
 
 -- A lent table with its memo.
-pub record Ready (P : Note) (h : Head) (nodes children : List ℕ) (cuts : List ℤ) (index memo : List ℕ) : Type 0 where
-  pub lent : Lent h nodes children cuts index
-  pub long : length memo ≡ room nodes * 3
-  pub recalled : Memo (P (tableOf h nodes children cuts)) memo
+pub record Ready (P : Note) (h : Head) (st : Store) (index memo : List ℕ) : Type 0 where
+  pub lent : Lent h st index
+  pub long : length memo ≡ room (st .nodes) * 3
+  pub recalled : Memo (P (tableOf h st)) memo
 
 -- The outcome of a step, and that the memo is still true.
-pub record Stepped (P : Note) (h : Head) (want : Table × ℕ) (r : Made) (nodes children : List ℕ) (cuts : List ℤ) (memo nodes′ children′ : List ℕ) (cuts′ : List ℤ) (index′ memo′ : List ℕ) : Type 0 where
-  pub outcome : Outcome h want r nodes children cuts nodes′ children′ cuts′ index′
+pub record Stepped (P : Note) (h : Head) (want : Table × ℕ) (r : Made) (st : Store) (memo : List ℕ) (st′ : Store) (index′ memo′ : List ℕ) : Type 0 where
+  pub outcome : Outcome h want r st st′ index′
   pub long : length memo′ ≡ length memo
-  pub recalled : Memo (P (tableOf (r .head) nodes′ children′ cuts′)) memo′
+  pub recalled : Memo (P (tableOf (r .head) st′)) memo′
 
 -- Two sides at variable v, which one of them tests or both do: n is more than the variables ahead of their children.
 pub record Sides (t : Table) (e : ℕ) (children : List ℕ) (cuts : List ℤ) (v n : ℕ) (a b : View) : Type 0 where
@@ -77,20 +77,20 @@ pub record Mergeable (t : Table) (u : ℕ) (es : built.Edges) : Type 0 where
   pub kids : Each (Child t (suc u)) (piecesOf es)
 
 -- The node of variable u over these edges, which is noted under x; or nothing, where it is not to be made.
-pub record NodeOver (ok : Bool) (h : Head) (x u : ℕ) (es : built.Edges) (nodes children : List ℕ) (cuts : List ℤ) (index memo : List ℕ) (r : Made) (nodes′ children′ : List ℕ) (cuts′ : List ℤ) (index′ memo′ : List ℕ) : Type 0 where
-  pub nothing : ok ≡ false → (r .ok ≡ false) × (r .head ≡ h) × Untouched nodes children cuts index nodes′ children′ cuts′ index′ × (memo′ ≡ memo)
-  pub made : ok ≡ true → Outcome h (create-node (tableOf h nodes children cuts) u (piecesOf es)) r nodes children cuts nodes′ children′ cuts′ index′
+pub record NodeOver (ok : Bool) (h : Head) (x u : ℕ) (es : built.Edges) (st : Store) (index memo : List ℕ) (r : Made) (st′ : Store) (index′ memo′ : List ℕ) : Type 0 where
+  pub nothing : ok ≡ false → (r .ok ≡ false) × (r .head ≡ h) × Untouched st index st′ index′ × (memo′ ≡ memo)
+  pub made : ok ≡ true → Outcome h (create-node (tableOf h st) u (piecesOf es)) r st st′ index′
   pub noted : ok ≡ true → r .ok ≡ true → Overwritten memo x TRUE (r .id .0) memo′
   pub not-noted : ok ≡ true → r .ok ≡ false → memo′ ≡ memo
 
 -- What is left of what was made: all of it; or, where there was no room, nothing after the first `used` nodes. The memo is all zero.
-pub record Finishes (used : ℕ) (m : Made) (nodes children : List ℕ) (cuts : List ℤ) (index memo : List ℕ) (r : Made) (nodes′ children′ : List ℕ) (cuts′ : List ℤ) (index′ memo′ : List ℕ) : Type 0 where
-  pub kept : m .ok ≡ true → (r ≡ m) × Untouched nodes children cuts index nodes′ children′ cuts′ index′
-  pub taken : m .ok ≡ false → (r .ok ≡ false) × TakenBack used (m .head) nodes children cuts (r .head) nodes′ children′ cuts′ index′
+pub record Finishes (used : ℕ) (m : Made) (st : Store) (index memo : List ℕ) (r : Made) (st′ : Store) (index′ memo′ : List ℕ) : Type 0 where
+  pub kept : m .ok ≡ true → (r ≡ m) × Untouched st index st′ index′
+  pub taken : m .ok ≡ false → (r .ok ≡ false) × TakenBack used (m .head) st (r .head) st′ index′
   pub zeroed : memo′ ≡ replicate (length memo) 0
 
 -- What a whole operation leaves: its outcome, nothing else where there was no room, and a memo of zeros.
-pub record Worked (h : Head) (want : Table × ℕ) (r : Made) (nodes children : List ℕ) (cuts : List ℤ) (index memo nodes′ children′ : List ℕ) (cuts′ : List ℤ) (index′ memo′ : List ℕ) : Type 0 where
-  pub outcome : Outcome h want r nodes children cuts nodes′ children′ cuts′ index′
-  pub untouched : r .ok ≡ false → Untouched nodes children cuts index nodes′ children′ cuts′ index′
+pub record Worked (h : Head) (want : Table × ℕ) (r : Made) (st : Store) (index memo : List ℕ) (st′ : Store) (index′ memo′ : List ℕ) : Type 0 where
+  pub outcome : Outcome h want r st st′ index′
+  pub untouched : r .ok ≡ false → Untouched st index st′ index′
   pub zeroed : memo′ ≡ replicate (length memo) 0

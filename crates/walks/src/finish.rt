@@ -2,6 +2,7 @@
 ghost use Prim.Native.Nat.{_≤_};
 ghost use Rattle.making.specs.Outcome.{Lent};
 ghost use Rattle.walks.specs.Walking.{Finishes};
+ghost use Rattle.table.specs.Layout.{store};
 use ids::NodeId;
 use making::nodes::Made;
 use making::undo::undo;
@@ -18,8 +19,8 @@ pub fn finish(
     m: Made,
     used: usize,
 ) -> Made
-    requires { ⌜ (Lent (m .head) (now nodes) (now children) (now cuts) (now index)) × (used ≤ m .head .used) ⌝ }
-    ensures { λ r. ⌜ Finishes used m (now (nodes .entry)) (now (children .entry)) (now (cuts .entry)) (now (index .entry)) (now (memo .entry)) r (now (nodes .exit)) (now (children .exit)) (now (cuts .exit)) (now (index .exit)) (now (memo .exit)) ⌝ }
+    requires { ⌜ (Lent (m .head) (store (now nodes) (now children) (now cuts)) (now index)) × (used ≤ m .head .used) ⌝ }
+    ensures { λ r. ⌜ Finishes used m (store (now (nodes .entry)) (now (children .entry)) (now (cuts .entry))) (now (index .entry)) (now (memo .entry)) r (store (now (nodes .exit)) (now (children .exit)) (now (cuts .exit))) (now (index .exit)) (now (memo .exit)) ⌝ }
 {
     zero_words(memo);
     if m.ok {

@@ -8,6 +8,7 @@ ghost use Rattle.walks.specs.Recalling.{Hit, Overwritten};
 use ids::NodeId;
 use table::index::mixed;
 use table::index::scaled;
+use table::limits::MEMO_WORDS;
 use table::words::wide;
 
 // An id, if it is settled.
@@ -29,7 +30,7 @@ pub fn recall(memo: &[u32], rooms: usize, x: NodeId, y: NodeId) -> Settled
     requires { ⌜ (1 ≤ rooms) × (rooms ≤ mostNodes) × (length (now memo) ≡ rooms * 3) ⌝ }
     ensures { λ r. ⌜ (r .done ≡ true → Hit (now (memo .entry)) (x .0) (y .0) (r .id .0)) ⌝ }
 {
-    let at = slot_of(x, y, rooms) * 3;
+    let at = slot_of(x, y, rooms) * MEMO_WORDS;
     if memo[at] == x.0 {
         if memo[at + 1] == y.0 {
             return Settled {
@@ -49,7 +50,7 @@ pub fn remember(memo: &mut [u32], rooms: usize, x: NodeId, y: NodeId, id: NodeId
     requires { ⌜ (1 ≤ rooms) × (rooms ≤ mostNodes) × (length (now memo) ≡ rooms * 3) ⌝ }
     ensures { λ _. ⌜ Overwritten (now (memo .entry)) (x .0) (y .0) (id .0) (now (memo .exit)) ⌝ }
 {
-    let at = slot_of(x, y, rooms) * 3;
+    let at = slot_of(x, y, rooms) * MEMO_WORDS;
     memo[at] = x.0;
     memo[at + 1] = y.0;
     memo[at + 2] = id.0;

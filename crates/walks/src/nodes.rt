@@ -3,7 +3,7 @@ ghost use mathlib.Core.Path.{_≡_};
 ghost use mathlib.Core.Bool.{true};
 ghost use Prim.Native.Nat.{_*_};
 ghost use lib.ListN.{length};
-ghost use Rattle.table.specs.Layout.{room};
+ghost use Rattle.table.specs.Layout.{room, store};
 ghost use Rattle.making.specs.Outcome.{Lent, tableOf};
 ghost use Rattle.walks.specs.Walking.{Mergeable, NodeOver};
 use super::memo::remember;
@@ -13,6 +13,7 @@ use making::edges::merged;
 use making::nodes::Head;
 use making::nodes::Made;
 use making::nodes::create_node;
+use table::limits::RECORD_WORDS;
 
 // The node of variable u over these edges, merged, remembered as what x became; or that a child had no room.
 pub fn node_over(
@@ -27,8 +28,8 @@ pub fn node_over(
     u: usize,
     es: Edges,
 ) -> Made
-    requires { ⌜ (Lent head (now nodes) (now children) (now cuts) (now index)) × (length (now memo) ≡ room (now nodes) * 3) × (ok ≡ true → Mergeable (tableOf head (now nodes) (now children) (now cuts)) u es) ⌝ }
-    ensures { λ r. ⌜ NodeOver ok head (x .0) u es (now (nodes .entry)) (now (children .entry)) (now (cuts .entry)) (now (index .entry)) (now (memo .entry)) r (now (nodes .exit)) (now (children .exit)) (now (cuts .exit)) (now (index .exit)) (now (memo .exit)) ⌝ }
+    requires { ⌜ (Lent head (store (now nodes) (now children) (now cuts)) (now index)) × (length (now memo) ≡ room (now nodes) * 3) × (ok ≡ true → Mergeable (tableOf head (store (now nodes) (now children) (now cuts))) u es) ⌝ }
+    ensures { λ r. ⌜ NodeOver ok head (x .0) u es (store (now (nodes .entry)) (now (children .entry)) (now (cuts .entry))) (now (index .entry)) (now (memo .entry)) r (store (now (nodes .exit)) (now (children .exit)) (now (cuts .exit))) (now (index .exit)) (now (memo .exit)) ⌝ }
 {
     if !ok {
         return Made {
@@ -37,7 +38,7 @@ pub fn node_over(
             head,
         };
     }
-    let rooms = nodes.len() / 4;
+    let rooms = nodes.len() / RECORD_WORDS;
     let m = create_node(nodes, children, cuts, index, head, u, merged(es));
     if m.ok {
         let id = m.id;

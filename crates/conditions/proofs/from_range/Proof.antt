@@ -5,7 +5,7 @@ use Rattle.conditions.proofs.from_range.Statement.{statement}
 use Rattle.conditions.proofs.from_range.Tie as tie
 
 returns : tie.Need-returns
-returns c = promised-as ((c .before .before .before .before .before .before .before .within .ensures)) (range-wanted _ _ ((c .before .before .before .before .before .before .before .before .before .before .before .before .from-bounds .ensures)))
+returns c = promised-as (c .before .before .before .before .before .before .before .within .ensures) (range-wanted _ _ (c .before .before .before .before .before .before .before .before .before .before .before .before .from-bounds .ensures))
 
 pub from-range-spec : {M : Type 1} → statement M
 from-range-spec =

@@ -5,10 +5,10 @@ use Rattle.conditions.proofs.within.Statement.{statement}
 use Rattle.conditions.proofs.within.Tie as tie
 
 create-node-requires : tie.Need-create-node-requires
-create-node-requires c κs = ((c .before .before .before .before .before .before .before .before .pre .0), range-buildable _ ((c .before .before .before .before .before .before .before .before .pre .1)) _ _ ((c .before .before .before .before .edges-of .ensures)) ((c .before .before .before .before .before .before .before .before .pre .2)))
+create-node-requires c κs = ((c .before .before .before .before .before .before .before .before .pre .0), range-buildable _ (c .before .before .before .before .before .before .before .before .pre .1) _ _ (c .before .before .before .before .edges-of .ensures) (c .before .before .before .before .before .before .before .before .pre .2))
 
 returns : tie.Need-returns
-returns c = promised-as ((c .before .before .before .before .before .before .before .create-node .ensures)) (range-settles _ ((c .before .before .before .before .before .before .before .before .before .before .before .before .before .before .before .before .pre .1)) _ _ ((c .before .before .before .before .before .before .before .before .before .before .before .before .edges-of .ensures)) ((c .before .before .before .before .before .before .before .before .before .before .before .before .before .before .before .before .pre .2)))
+returns c = promised-as (c .before .before .before .before .before .before .before .create-node .ensures) (range-settles _ (c .before .before .before .before .before .before .before .before .before .before .before .before .before .before .before .before .pre .1) _ _ (c .before .before .before .before .before .before .before .before .before .before .before .before .edges-of .ensures) (c .before .before .before .before .before .before .before .before .before .before .before .before .before .before .before .before .pre .2))
 
 pub within-spec : {M : Type 1} → statement M
 within-spec =

@@ -30,6 +30,7 @@ use Rattle.views.proofs.first_variable.Reads as first-variable-reads
 use Rattle.views.proofs.view_of.Reads as view-of-reads
 use Rattle.disjointness.proofs.+booleans_disjoint+is_disjoint+ranges_disjoint.{statement}
 use Rattle.disjointness.proofs.+booleans_disjoint+is_disjoint+ranges_disjoint.Tie.{close}
+use Rattle.table.specs.Layout.{store}
 
 abbrev μ-booleans-disjoint : Measures 3 booleans-disjoint-kinds.ps ℕ
 μ-booleans-disjoint κs a = a .1 .1 .1 .1 .1 .1 .0 * 2 + 1
@@ -96,10 +97,10 @@ booleans-disjoint-child-requires-2 : (t : ℕ) → booleans-disjoint-lts.Need-ch
 booleans-disjoint-child-requires-2 t c κs = ((c .before .before .before .pre .1 .1 .right), omega (arith, (c .before .before .before .pre .1 .1 .right .some)))
 
 booleans-disjoint-is-disjoint-requires : (t : ℕ) → booleans-disjoint-lts.Need-is-disjoint-requires (booleans-disjoint-claims t) (booleans-disjoint-at t) booleans-disjoint.Post
-booleans-disjoint-is-disjoint-requires t c κs = (omega (arith, (c .before .before .before .before .pre .0)), ((c .before .before .before .before .pre .1 .0), asked-child (now ((c .before .before .before .before .args .children))) (now ((c .before .before .before .before .args .cuts))) _ ((c .before .before .before .before .args .used)) 32 ((c .before .before .before .before .args .ahead)) 0 _ ((c .before .before .before .before .args .a)) ((c .before .before .before .before .pre .1 .1 .left-asked)) (omega (arith, (c .before .before .before .before .pre .1 .1 .left .some))) ((c .before .child .ensures)), asked-child (now ((c .before .before .before .before .args .children))) (now ((c .before .before .before .before .args .cuts))) _ ((c .before .before .before .before .args .used)) 32 ((c .before .before .before .before .args .ahead)) 0 _ ((c .before .before .before .before .args .b)) ((c .before .before .before .before .pre .1 .1 .right-asked)) (omega (arith, (c .before .before .before .before .pre .1 .1 .right .some))) ((c .child2 .ensures))))
+booleans-disjoint-is-disjoint-requires t c κs = (omega (arith, (c .before .before .before .before .pre .0)), ((c .before .before .before .before .pre .1 .0), asked-child (now (c .before .before .before .before .args .children)) (now (c .before .before .before .before .args .cuts)) _ (c .before .before .before .before .args .used) 32 (c .before .before .before .before .args .ahead) 0 _ (c .before .before .before .before .args .a) (c .before .before .before .before .pre .1 .1 .left-asked) (omega (arith, (c .before .before .before .before .pre .1 .1 .left .some))) (c .before .child .ensures), asked-child (now (c .before .before .before .before .args .children)) (now (c .before .before .before .before .args .cuts)) _ (c .before .before .before .before .args .used) 32 (c .before .before .before .before .args .ahead) 0 _ (c .before .before .before .before .args .b) (c .before .before .before .before .pre .1 .1 .right-asked) (omega (arith, (c .before .before .before .before .pre .1 .1 .right .some))) (c .child2 .ensures)))
 
 booleans-disjoint-returns : (t : ℕ) → booleans-disjoint-lts.Need-returns (booleans-disjoint-claims t) (booleans-disjoint-at t) booleans-disjoint.Post
-booleans-disjoint-returns t c = high-no ((c .before .before .before .before .before .before .pre .1 .1)) ((c .before .before .before .child .ensures)) ((c .before .before .child2 .ensures)) ((c .before .is-disjoint .ensures)) (not-true _ ((c .if1 .taken)))
+booleans-disjoint-returns t c = high-no (c .before .before .before .before .before .before .pre .1 .1) (c .before .before .before .child .ensures) (c .before .before .child2 .ensures) (c .before .is-disjoint .ensures) (not-true _ (c .if1 .taken))
 
 booleans-disjoint-sub-child : (t : ℕ) → booleans-disjoint-lts.Need-sub-child (booleans-disjoint-claims t) (booleans-disjoint-at t) booleans-disjoint.Post
 booleans-disjoint-sub-child t c = omega (arith, (c .before .before .before .before .before .before .before .pre .1 .1 .left .some))
@@ -115,52 +116,52 @@ booleans-disjoint-child-requires-4 t c κs = ((c .before .before .before .before
 
 booleans-disjoint-is-disjoint-requires-2 :
     (t : ℕ) → booleans-disjoint-lts.Need-is-disjoint-requires-2 (booleans-disjoint-claims t) (booleans-disjoint-at t) booleans-disjoint.Post
-booleans-disjoint-is-disjoint-requires-2 t c κs = (omega (arith, (c .before .before .before .before .before .before .before .before .before .before .pre .0)), ((c .before .before .before .before .before .before .before .before .before .before .pre .1 .0), asked-child (now ((c .before .before .before .before .before .before .before .before .before .before .args .children))) (now ((c .before .before .before .before .before .before .before .before .before .before .args .cuts))) _ ((c .before .before .before .before .before .before .before .before .before .before .args .used)) 32 ((c .before .before .before .before .before .before .before .before .before .before .args .ahead)) ((c .before .before .before .before .before .before .before .before .before .before .args .a .count) - 1) _ ((c .before .before .before .before .before .before .before .before .before .before .args .a)) ((c .before .before .before .before .before .before .before .before .before .before .pre .1 .1 .left-asked)) (omega (arith, (c .before .before .before .before .before .before .before .before .before .before .pre .1 .1 .left .some))) ((c .before .before .child3 .ensures)), asked-child (now ((c .before .before .before .before .before .before .before .before .before .before .args .children))) (now ((c .before .before .before .before .before .before .before .before .before .before .args .cuts))) _ ((c .before .before .before .before .before .before .before .before .before .before .args .used)) 32 ((c .before .before .before .before .before .before .before .before .before .before .args .ahead)) ((c .before .before .before .before .before .before .before .before .before .before .args .b .count) - 1) _ ((c .before .before .before .before .before .before .before .before .before .before .args .b)) ((c .before .before .before .before .before .before .before .before .before .before .pre .1 .1 .right-asked)) (omega (arith, (c .before .before .before .before .before .before .before .before .before .before .pre .1 .1 .right .some))) ((c .child4 .ensures))))
+booleans-disjoint-is-disjoint-requires-2 t c κs = (omega (arith, (c .before .before .before .before .before .before .before .before .before .before .pre .0)), ((c .before .before .before .before .before .before .before .before .before .before .pre .1 .0), asked-child (now (c .before .before .before .before .before .before .before .before .before .before .args .children)) (now (c .before .before .before .before .before .before .before .before .before .before .args .cuts)) _ (c .before .before .before .before .before .before .before .before .before .before .args .used) 32 (c .before .before .before .before .before .before .before .before .before .before .args .ahead) ((c .before .before .before .before .before .before .before .before .before .before .args .a .count) - 1) _ (c .before .before .before .before .before .before .before .before .before .before .args .a) (c .before .before .before .before .before .before .before .before .before .before .pre .1 .1 .left-asked) (omega (arith, (c .before .before .before .before .before .before .before .before .before .before .pre .1 .1 .left .some))) (c .before .before .child3 .ensures), asked-child (now (c .before .before .before .before .before .before .before .before .before .before .args .children)) (now (c .before .before .before .before .before .before .before .before .before .before .args .cuts)) _ (c .before .before .before .before .before .before .before .before .before .before .args .used) 32 (c .before .before .before .before .before .before .before .before .before .before .args .ahead) ((c .before .before .before .before .before .before .before .before .before .before .args .b .count) - 1) _ (c .before .before .before .before .before .before .before .before .before .before .args .b) (c .before .before .before .before .before .before .before .before .before .before .pre .1 .1 .right-asked) (omega (arith, (c .before .before .before .before .before .before .before .before .before .before .pre .1 .1 .right .some))) (c .child4 .ensures)))
 
 booleans-disjoint-returns-2 : (t : ℕ) → booleans-disjoint-lts.Need-returns-2 (booleans-disjoint-claims t) (booleans-disjoint-at t) booleans-disjoint.Post
-booleans-disjoint-returns-2 t c = high-yes ((c .before .before .before .before .before .before .before .before .before .before .before .pre .1 .1)) ((c .before .before .before .before .before .before .before .before .child .ensures)) ((c .before .before .before .before .before .before .before .child2 .ensures)) ((c .before .before .before .before .before .before .is-disjoint .ensures)) (not-false _ ((c .before .before .before .before .before .if1 .left))) ((c .before .before .before .before .before .before .before .before .before .before .before .pre .1 .2)) ((c .before .before .before .before .before .before .before .before .before .before .before .pre .1 .3)) ((c .before .before .before .child3 .ensures)) ((c .before .child4 .ensures)) ((c .is-disjoint2 .ensures))
+booleans-disjoint-returns-2 t c = high-yes (c .before .before .before .before .before .before .before .before .before .before .before .pre .1 .1) (c .before .before .before .before .before .before .before .before .child .ensures) (c .before .before .before .before .before .before .before .child2 .ensures) (c .before .before .before .before .before .before .is-disjoint .ensures) (not-false _ (c .before .before .before .before .before .if1 .left)) (c .before .before .before .before .before .before .before .before .before .before .before .pre .1 .2) (c .before .before .before .before .before .before .before .before .before .before .before .pre .1 .3) (c .before .before .before .child3 .ensures) (c .before .child4 .ensures) (c .is-disjoint2 .ensures)
 
 is-disjoint-returns : (t : ℕ) → is-disjoint-lts.Need-returns (is-disjoint-claims t) (is-disjoint-at t) is-disjoint.Post
-is-disjoint-returns t c = opening-yes ((c .before .before .before .before .pre .1 .0)) ((c .before .before .before .before .pre .1 .1)) ((c .before .before .before .before .pre .1 .2)) ((c .before .opposed .ensures)) ((c .if1 .taken))
+is-disjoint-returns t c = opening-yes (c .before .before .before .before .pre .1 .0) (c .before .before .before .before .pre .1 .1) (c .before .before .before .before .pre .1 .2) (c .before .opposed .ensures) (c .if1 .taken)
 
 is-disjoint-returns-2 : (t : ℕ) → is-disjoint-lts.Need-returns-2 (is-disjoint-claims t) (is-disjoint-at t) is-disjoint.Post
-is-disjoint-returns-2 t c = opening-no ((c .before .before .before .before .before .before .pre .1 .0)) ((c .before .before .before .before .before .before .pre .1 .1)) ((c .before .before .before .before .before .before .pre .1 .2)) ((c .before .before .before .opposed .ensures)) ((c .before .before .if1 .left)) ((c .before .agreeing .ensures)) ((c .if2 .taken))
+is-disjoint-returns-2 t c = opening-no (c .before .before .before .before .before .before .pre .1 .0) (c .before .before .before .before .before .before .pre .1 .1) (c .before .before .before .before .before .before .pre .1 .2) (c .before .before .before .opposed .ensures) (c .before .before .if1 .left) (c .before .agreeing .ensures) (c .if2 .taken)
 
 is-disjoint-first-variable-requires : (t : ℕ) → is-disjoint-lts.Need-first-variable-requires (is-disjoint-claims t) (is-disjoint-at t) is-disjoint.Post
-is-disjoint-first-variable-requires t c κs = ((c .before .before .before .before .before .before .pre .1 .0), left-node ((c .before .before .before .before .before .before .pre .1 .0)) ((c .before .before .before .before .before .before .pre .1 .1)) ((c .before .before .before .before .before .before .pre .1 .2)) ((c .before .before .before .opposed .ensures)) ((c .before .before .if1 .left)) ((c .before .agreeing .ensures)) ((c .if2 .left)), (c .before .before .before .before .before .before .pre .1 .1 .known), right-node ((c .before .before .before .before .before .before .pre .1 .0)) ((c .before .before .before .before .before .before .pre .1 .1)) ((c .before .before .before .before .before .before .pre .1 .2)) ((c .before .before .before .opposed .ensures)) ((c .before .before .if1 .left)) ((c .before .agreeing .ensures)) ((c .if2 .left)), (c .before .before .before .before .before .before .pre .1 .2 .known))
+is-disjoint-first-variable-requires t c κs = ((c .before .before .before .before .before .before .pre .1 .0), left-node (c .before .before .before .before .before .before .pre .1 .0) (c .before .before .before .before .before .before .pre .1 .1) (c .before .before .before .before .before .before .pre .1 .2) (c .before .before .before .opposed .ensures) (c .before .before .if1 .left) (c .before .agreeing .ensures) (c .if2 .left), (c .before .before .before .before .before .before .pre .1 .1 .known), right-node (c .before .before .before .before .before .before .pre .1 .0) (c .before .before .before .before .before .before .pre .1 .1) (c .before .before .before .before .before .before .pre .1 .2) (c .before .before .before .opposed .ensures) (c .before .before .if1 .left) (c .before .agreeing .ensures) (c .if2 .left), (c .before .before .before .before .before .before .pre .1 .2 .known))
 
 is-disjoint-view-of-requires : (t : ℕ) → is-disjoint-lts.Need-view-of-requires (is-disjoint-claims t) (is-disjoint-at t) is-disjoint.Post
-is-disjoint-view-of-requires t c κs = ((c .before .before .before .before .before .before .before .pre .1 .0), left-node ((c .before .before .before .before .before .before .before .pre .1 .0)) ((c .before .before .before .before .before .before .before .pre .1 .1)) ((c .before .before .before .before .before .before .before .pre .1 .2)) ((c .before .before .before .before .opposed .ensures)) ((c .before .before .before .if1 .left)) ((c .before .before .agreeing .ensures)) ((c .before .if2 .left)), (c .before .before .before .before .before .before .before .pre .1 .1 .known))
+is-disjoint-view-of-requires t c κs = ((c .before .before .before .before .before .before .before .pre .1 .0), left-node (c .before .before .before .before .before .before .before .pre .1 .0) (c .before .before .before .before .before .before .before .pre .1 .1) (c .before .before .before .before .before .before .before .pre .1 .2) (c .before .before .before .before .opposed .ensures) (c .before .before .before .if1 .left) (c .before .before .agreeing .ensures) (c .before .if2 .left), (c .before .before .before .before .before .before .before .pre .1 .1 .known))
 
 is-disjoint-view-of-requires-2 : (t : ℕ) → is-disjoint-lts.Need-view-of-requires-2 (is-disjoint-claims t) (is-disjoint-at t) is-disjoint.Post
-is-disjoint-view-of-requires-2 t c κs = ((c .before .before .before .before .before .before .before .before .pre .1 .0), right-node ((c .before .before .before .before .before .before .before .before .pre .1 .0)) ((c .before .before .before .before .before .before .before .before .pre .1 .1)) ((c .before .before .before .before .before .before .before .before .pre .1 .2)) ((c .before .before .before .before .before .opposed .ensures)) ((c .before .before .before .before .if1 .left)) ((c .before .before .before .agreeing .ensures)) ((c .before .before .if2 .left)), (c .before .before .before .before .before .before .before .before .pre .1 .2 .known))
+is-disjoint-view-of-requires-2 t c κs = ((c .before .before .before .before .before .before .before .before .pre .1 .0), right-node (c .before .before .before .before .before .before .before .before .pre .1 .0) (c .before .before .before .before .before .before .before .before .pre .1 .1) (c .before .before .before .before .before .before .before .before .pre .1 .2) (c .before .before .before .before .before .opposed .ensures) (c .before .before .before .before .if1 .left) (c .before .before .before .agreeing .ensures) (c .before .before .if2 .left), (c .before .before .before .before .before .before .before .before .pre .1 .2 .known))
 
 is-disjoint-sub-ranges-disjoint : (t : ℕ) → is-disjoint-lts.Need-sub-ranges-disjoint (is-disjoint-claims t) (is-disjoint-at t) is-disjoint.Post
-is-disjoint-sub-ranges-disjoint t c = omega (arith, call-left ((c .before .before .before .before .before .before .before .before .before .before .pre .1 .0)) ((c .before .before .before .before .before .before .before .before .before .before .pre .1 .1)) ((c .before .before .before .before .before .before .before .before .before .before .pre .1 .2)))
+is-disjoint-sub-ranges-disjoint t c = omega (arith, call-left (c .before .before .before .before .before .before .before .before .before .before .pre .1 .0) (c .before .before .before .before .before .before .before .before .before .before .pre .1 .1) (c .before .before .before .before .before .before .before .before .before .before .pre .1 .2))
 
 is-disjoint-ranges-disjoint-requires : (t : ℕ) → is-disjoint-lts.Need-ranges-disjoint-requires (is-disjoint-claims t) (is-disjoint-at t) is-disjoint.Post
-is-disjoint-ranges-disjoint-requires t c κs = (omega (arith, (c .before .before .before .before .before .before .before .before .before .before .pre .0), call-left ((c .before .before .before .before .before .before .before .before .before .before .pre .1 .0)) ((c .before .before .before .before .before .before .before .before .before .before .pre .1 .1)) ((c .before .before .before .before .before .before .before .before .before .before .pre .1 .2))), ((c .before .before .before .before .before .before .before .before .before .before .pre .1 .0), range-sides ((c .before .before .before .before .before .before .before .before .before .before .pre .1 .0)) ((c .before .before .before .before .before .before .before .before .before .before .pre .1 .1)) ((c .before .before .before .before .before .before .before .before .before .before .pre .1 .2)) ((c .before .before .before .before .before .before .before .opposed .ensures)) ((c .before .before .before .before .before .before .if1 .left)) ((c .before .before .before .before .before .agreeing .ensures)) ((c .before .before .before .before .if2 .left)) ((c .before .before .before .first-variable .ensures .0)) ((c .before .before .before .first-variable .ensures .1)) ((c .before .before .view-of .ensures)) ((c .before .view-of2 .ensures)) ((c .if3 .taken))))
+is-disjoint-ranges-disjoint-requires t c κs = (omega (arith, (c .before .before .before .before .before .before .before .before .before .before .pre .0), call-left (c .before .before .before .before .before .before .before .before .before .before .pre .1 .0) (c .before .before .before .before .before .before .before .before .before .before .pre .1 .1) (c .before .before .before .before .before .before .before .before .before .before .pre .1 .2)), ((c .before .before .before .before .before .before .before .before .before .before .pre .1 .0), range-sides (c .before .before .before .before .before .before .before .before .before .before .pre .1 .0) (c .before .before .before .before .before .before .before .before .before .before .pre .1 .1) (c .before .before .before .before .before .before .before .before .before .before .pre .1 .2) (c .before .before .before .before .before .before .before .opposed .ensures) (c .before .before .before .before .before .before .if1 .left) (c .before .before .before .before .before .agreeing .ensures) (c .before .before .before .before .if2 .left) (c .before .before .before .first-variable .ensures .0) (c .before .before .before .first-variable .ensures .1) (c .before .before .view-of .ensures) (c .before .view-of2 .ensures) (c .if3 .taken)))
 
 is-disjoint-returns-3 : (t : ℕ) → is-disjoint-lts.Need-returns-3 (is-disjoint-claims t) (is-disjoint-at t) is-disjoint.Post
-is-disjoint-returns-3 t c = range-answer ((c .before .before .before .before .before .before .before .before .before .before .before .pre .1 .0)) ((c .before .before .before .before .before .before .before .before .before .before .before .pre .1 .1)) ((c .before .before .before .before .before .before .before .before .before .before .before .pre .1 .2)) ((c .before .before .before .before .before .before .before .before .opposed .ensures)) ((c .before .before .before .before .before .before .before .if1 .left)) ((c .before .before .before .before .before .before .agreeing .ensures)) ((c .before .before .before .before .before .if2 .left)) ((c .before .before .before .before .first-variable .ensures .0)) ((c .before .before .before .before .first-variable .ensures .1)) ((c .before .before .before .view-of .ensures)) ((c .before .before .view-of2 .ensures)) ((c .before .if3 .taken)) ((c .ranges-disjoint .ensures))
+is-disjoint-returns-3 t c = range-answer (c .before .before .before .before .before .before .before .before .before .before .before .pre .1 .0) (c .before .before .before .before .before .before .before .before .before .before .before .pre .1 .1) (c .before .before .before .before .before .before .before .before .before .before .before .pre .1 .2) (c .before .before .before .before .before .before .before .before .opposed .ensures) (c .before .before .before .before .before .before .before .if1 .left) (c .before .before .before .before .before .before .agreeing .ensures) (c .before .before .before .before .before .if2 .left) (c .before .before .before .before .first-variable .ensures .0) (c .before .before .before .before .first-variable .ensures .1) (c .before .before .before .view-of .ensures) (c .before .before .view-of2 .ensures) (c .before .if3 .taken) (c .ranges-disjoint .ensures)
 
 is-disjoint-sub-booleans-disjoint : (t : ℕ) → is-disjoint-lts.Need-sub-booleans-disjoint (is-disjoint-claims t) (is-disjoint-at t) is-disjoint.Post
-is-disjoint-sub-booleans-disjoint t c = omega (arith, call-left ((c .before .before .before .before .before .before .before .before .before .before .pre .1 .0)) ((c .before .before .before .before .before .before .before .before .before .before .pre .1 .1)) ((c .before .before .before .before .before .before .before .before .before .before .pre .1 .2)))
+is-disjoint-sub-booleans-disjoint t c = omega (arith, call-left (c .before .before .before .before .before .before .before .before .before .before .pre .1 .0) (c .before .before .before .before .before .before .before .before .before .before .pre .1 .1) (c .before .before .before .before .before .before .before .before .before .before .pre .1 .2))
 
 is-disjoint-booleans-disjoint-requires : (t : ℕ) → is-disjoint-lts.Need-booleans-disjoint-requires (is-disjoint-claims t) (is-disjoint-at t) is-disjoint.Post
-is-disjoint-booleans-disjoint-requires t c κs = let z = bool-sides ((c .before .before .before .before .before .before .before .before .before .before .pre .1 .0)) ((c .before .before .before .before .before .before .before .before .before .before .pre .1 .1)) ((c .before .before .before .before .before .before .before .before .before .before .pre .1 .2)) ((c .before .before .before .before .before .before .before .opposed .ensures)) ((c .before .before .before .before .before .before .if1 .left)) ((c .before .before .before .before .before .agreeing .ensures)) ((c .before .before .before .before .if2 .left)) ((c .before .before .before .first-variable .ensures .0)) ((c .before .before .before .first-variable .ensures .1)) ((c .before .before .view-of .ensures)) ((c .before .view-of2 .ensures)) ((c .if3 .left)) in (omega (arith, (c .before .before .before .before .before .before .before .before .before .before .pre .0), call-left ((c .before .before .before .before .before .before .before .before .before .before .pre .1 .0)) ((c .before .before .before .before .before .before .before .before .before .before .pre .1 .1)) ((c .before .before .before .before .before .before .before .before .before .before .pre .1 .2))), ((c .before .before .before .before .before .before .before .before .before .before .pre .1 .0), z .0, z .1, z .2))
+is-disjoint-booleans-disjoint-requires t c κs = let z = bool-sides (c .before .before .before .before .before .before .before .before .before .before .pre .1 .0) (c .before .before .before .before .before .before .before .before .before .before .pre .1 .1) (c .before .before .before .before .before .before .before .before .before .before .pre .1 .2) (c .before .before .before .before .before .before .before .opposed .ensures) (c .before .before .before .before .before .before .if1 .left) (c .before .before .before .before .before .agreeing .ensures) (c .before .before .before .before .if2 .left) (c .before .before .before .first-variable .ensures .0) (c .before .before .before .first-variable .ensures .1) (c .before .before .view-of .ensures) (c .before .view-of2 .ensures) (c .if3 .left) in (omega (arith, (c .before .before .before .before .before .before .before .before .before .before .pre .0), call-left (c .before .before .before .before .before .before .before .before .before .before .pre .1 .0) (c .before .before .before .before .before .before .before .before .before .before .pre .1 .1) (c .before .before .before .before .before .before .before .before .before .before .pre .1 .2)), ((c .before .before .before .before .before .before .before .before .before .before .pre .1 .0), z .0, z .1, z .2))
 
 is-disjoint-returns-4 : (t : ℕ) → is-disjoint-lts.Need-returns-4 (is-disjoint-claims t) (is-disjoint-at t) is-disjoint.Post
-is-disjoint-returns-4 t c = bool-answer ((c .before .before .before .before .before .before .before .before .before .before .before .pre .1 .0)) ((c .before .before .before .before .before .before .before .before .before .before .before .pre .1 .1)) ((c .before .before .before .before .before .before .before .before .before .before .before .pre .1 .2)) ((c .before .before .before .before .before .before .before .before .opposed .ensures)) ((c .before .before .before .before .before .before .before .if1 .left)) ((c .before .before .before .before .before .before .agreeing .ensures)) ((c .before .before .before .before .before .if2 .left)) ((c .before .before .before .before .first-variable .ensures .0)) ((c .before .before .before .before .first-variable .ensures .1)) ((c .before .before .before .view-of .ensures)) ((c .before .before .view-of2 .ensures)) ((c .before .if3 .left)) ((c .booleans-disjoint .ensures))
+is-disjoint-returns-4 t c = bool-answer (c .before .before .before .before .before .before .before .before .before .before .before .pre .1 .0) (c .before .before .before .before .before .before .before .before .before .before .before .pre .1 .1) (c .before .before .before .before .before .before .before .before .before .before .before .pre .1 .2) (c .before .before .before .before .before .before .before .before .opposed .ensures) (c .before .before .before .before .before .before .before .if1 .left) (c .before .before .before .before .before .before .agreeing .ensures) (c .before .before .before .before .before .if2 .left) (c .before .before .before .before .first-variable .ensures .0) (c .before .before .before .before .first-variable .ensures .1) (c .before .before .before .view-of .ensures) (c .before .before .view-of2 .ensures) (c .before .if3 .left) (c .booleans-disjoint .ensures)
 
 abbrev ranges-disjoint-Inv-loop : ranges-disjoint-lts.InvT-loop
-ranges-disjoint-Inv-loop nodes children cuts used a b ahead answer₀ i j₀ x k answer j = (answer ≡ true) × Walked ahead (held nodes children cuts used) children cuts a b i j
+ranges-disjoint-Inv-loop nodes children cuts used a b ahead answer₀ i j₀ x k answer j = (answer ≡ true) × Walked ahead (held (store nodes children cuts) used) children cuts a b i j
 
 abbrev ranges-disjoint-μ-loop : ranges-disjoint-lts.MeasureT-loop
 ranges-disjoint-μ-loop nodes children cuts used a b ahead answer₀ i j₀ x k answer j = b .count - j
 
 abbrev ranges-disjoint-Inv-left : ranges-disjoint-lts.InvT-left
-ranges-disjoint-Inv-left nodes children cuts used a b ahead answer₀ i₀ j₀ answer i j = (answer ≡ true) × Turned ahead (held nodes children cuts used) children cuts a b i j
+ranges-disjoint-Inv-left nodes children cuts used a b ahead answer₀ i₀ j₀ answer i j = (answer ≡ true) × Turned ahead (held (store nodes children cuts) used) children cuts a b i j
 
 abbrev ranges-disjoint-μ-left : ranges-disjoint-lts.MeasureT-left
 ranges-disjoint-μ-left nodes children cuts used a b ahead answer₀ i₀ j₀ answer i j = a .count - i
@@ -172,7 +173,7 @@ ranges-disjoint-left-holds : (t : ℕ) → ranges-disjoint-lts.Need-left-holds (
     ranges-disjoint-μ-loop
     ranges-disjoint-Inv-left
     ranges-disjoint-μ-left
-ranges-disjoint-left-holds t c = (refl, walk-starts ((c .before .before .pre .1 .1)))
+ranges-disjoint-left-holds t c = (refl, walk-starts (c .before .before .pre .1 .1))
 
 ranges-disjoint-child-requires : (t : ℕ) → ranges-disjoint-lts.Need-child-requires (ranges-disjoint-claims t)
     (ranges-disjoint-at t)
@@ -190,7 +191,7 @@ ranges-disjoint-cut-requires : (t : ℕ) → ranges-disjoint-lts.Need-cut-requir
     ranges-disjoint-μ-loop
     ranges-disjoint-Inv-left
     ranges-disjoint-μ-left
-ranges-disjoint-cut-requires t c κs = (cuts-inside ((c .before .before .before .before .before .before .pre .1 .0)) ((c .before .before .before .before .before .before .pre .1 .1 .left)), (c .before .if1 .taken))
+ranges-disjoint-cut-requires t c κs = (cuts-inside (c .before .before .before .before .before .before .pre .1 .0) (c .before .before .before .before .before .before .pre .1 .1 .left), (c .before .if1 .taken))
 
 ranges-disjoint-loop-holds : (t : ℕ) → ranges-disjoint-lts.Need-loop-holds (ranges-disjoint-claims t)
     (ranges-disjoint-at t)
@@ -199,7 +200,7 @@ ranges-disjoint-loop-holds : (t : ℕ) → ranges-disjoint-lts.Need-loop-holds (
     ranges-disjoint-μ-loop
     ranges-disjoint-Inv-left
     ranges-disjoint-μ-left
-ranges-disjoint-loop-holds t c = ((c .before .before .before .before .left .inv .0), (c .before .before .before .before .left .inv .1 .going) ((c .before .before .if1 .taken)))
+ranges-disjoint-loop-holds t c = ((c .before .before .before .before .left .inv .0), (c .before .before .before .before .left .inv .1 .going) (c .before .before .if1 .taken))
 
 ranges-disjoint-child-requires-2 : (t : ℕ) → ranges-disjoint-lts.Need-child-requires-2 (ranges-disjoint-claims t)
     (ranges-disjoint-at t)
@@ -217,7 +218,7 @@ ranges-disjoint-is-disjoint-requires : (t : ℕ) → ranges-disjoint-lts.Need-is
     ranges-disjoint-μ-loop
     ranges-disjoint-Inv-left
     ranges-disjoint-μ-left
-ranges-disjoint-is-disjoint-requires t c κs = (omega (arith, (c .before .before .before .before .before .before .before .before .before .before .before .pre .0)), ((c .before .before .before .before .before .before .before .before .before .before .before .pre .1 .0), asked-child (now ((c .before .before .before .before .before .before .before .before .before .before .before .args .children))) (now ((c .before .before .before .before .before .before .before .before .before .before .before .args .cuts))) _ ((c .before .before .before .before .before .before .before .before .before .before .before .args .used)) 0 ((c .before .before .before .before .before .before .before .before .before .before .before .args .ahead)) _ _ ((c .before .before .before .before .before .before .before .before .before .before .before .args .a)) ((c .before .before .before .before .before .before .before .before .before .before .before .pre .1 .1 .left-asked)) ((c .before .before .before .before .before .before .if1 .taken)) ((c .before .before .before .before .before .child .ensures)), asked-child (now ((c .before .before .before .before .before .before .before .before .before .before .before .args .children))) (now ((c .before .before .before .before .before .before .before .before .before .before .before .args .cuts))) _ ((c .before .before .before .before .before .before .before .before .before .before .before .args .used)) 0 ((c .before .before .before .before .before .before .before .before .before .before .before .args .ahead)) _ _ ((c .before .before .before .before .before .before .before .before .before .before .before .args .b)) ((c .before .before .before .before .before .before .before .before .before .before .before .pre .1 .1 .right-asked)) ((c .before .if2 .taken)) ((c .child2 .ensures))))
+ranges-disjoint-is-disjoint-requires t c κs = (omega (arith, (c .before .before .before .before .before .before .before .before .before .before .before .pre .0)), ((c .before .before .before .before .before .before .before .before .before .before .before .pre .1 .0), asked-child (now (c .before .before .before .before .before .before .before .before .before .before .before .args .children)) (now (c .before .before .before .before .before .before .before .before .before .before .before .args .cuts)) _ (c .before .before .before .before .before .before .before .before .before .before .before .args .used) 0 (c .before .before .before .before .before .before .before .before .before .before .before .args .ahead) _ _ (c .before .before .before .before .before .before .before .before .before .before .before .args .a) (c .before .before .before .before .before .before .before .before .before .before .before .pre .1 .1 .left-asked) (c .before .before .before .before .before .before .if1 .taken) (c .before .before .before .before .before .child .ensures), asked-child (now (c .before .before .before .before .before .before .before .before .before .before .before .args .children)) (now (c .before .before .before .before .before .before .before .before .before .before .before .args .cuts)) _ (c .before .before .before .before .before .before .before .before .before .before .before .args .used) 0 (c .before .before .before .before .before .before .before .before .before .before .before .args .ahead) _ _ (c .before .before .before .before .before .before .before .before .before .before .before .args .b) (c .before .before .before .before .before .before .before .before .before .before .before .pre .1 .1 .right-asked) (c .before .if2 .taken) (c .child2 .ensures)))
 
 ranges-disjoint-cut-requires-2 : (t : ℕ) → ranges-disjoint-lts.Need-cut-requires-2 (ranges-disjoint-claims t)
     (ranges-disjoint-at t)
@@ -226,7 +227,7 @@ ranges-disjoint-cut-requires-2 : (t : ℕ) → ranges-disjoint-lts.Need-cut-requ
     ranges-disjoint-μ-loop
     ranges-disjoint-Inv-left
     ranges-disjoint-μ-left
-ranges-disjoint-cut-requires-2 t c κs = (cuts-inside ((c .before .before .before .before .before .before .before .before .before .before .before .before .before .pre .1 .0)) ((c .before .before .before .before .before .before .before .before .before .before .before .before .before .pre .1 .1 .right)), (c .before .before .before .if2 .taken))
+ranges-disjoint-cut-requires-2 t c κs = (cuts-inside (c .before .before .before .before .before .before .before .before .before .before .before .before .before .pre .1 .0) (c .before .before .before .before .before .before .before .before .before .before .before .before .before .pre .1 .1 .right), (c .before .before .before .if2 .taken))
 
 ranges-disjoint-add-j : (t : ℕ) → ranges-disjoint-lts.Need-add-j (ranges-disjoint-claims t)
     (ranges-disjoint-at t)
@@ -253,7 +254,7 @@ ranges-disjoint-loop-again : (t : ℕ) → ranges-disjoint-lts.Need-loop-again (
     ranges-disjoint-μ-loop
     ranges-disjoint-Inv-left
     ranges-disjoint-μ-left
-ranges-disjoint-loop-again t c = ((c .before .before .before .before .before .before .before .before .loop .inv .0), walk-right ((c .before .before .before .before .before .before .before .before .before .before .before .before .before .before .before .before .pre .1 .1)) ((c .before .before .before .before .before .before .before .before .before .before .before .if1 .taken)) ((c .before .before .before .before .before .before .before .before .loop .inv .1)) ((c .before .before .before .before .before .before .before .before .before .before .child .ensures)) ((c .before .before .before .before .before .child2 .ensures)) ((c .before .before .before .before .is-disjoint .ensures)) (not-false _ ((c .before .before .before .if3 .left))) ((c .before .before .before .before .before .before .before .before .before .cut .ensures)) ((c .before .before .cut2 .ensures)) (omega (arith, (c .before .if4 .left), (c .if5 .left))))
+ranges-disjoint-loop-again t c = ((c .before .before .before .before .before .before .before .before .loop .inv .0), walk-right (c .before .before .before .before .before .before .before .before .before .before .before .before .before .before .before .before .pre .1 .1) (c .before .before .before .before .before .before .before .before .before .before .before .if1 .taken) (c .before .before .before .before .before .before .before .before .loop .inv .1) (c .before .before .before .before .before .before .before .before .before .before .child .ensures) (c .before .before .before .before .before .child2 .ensures) (c .before .before .before .before .is-disjoint .ensures) (not-false _ (c .before .before .before .if3 .left)) (c .before .before .before .before .before .before .before .before .before .cut .ensures) (c .before .before .cut2 .ensures) (omega (arith, (c .before .if4 .left), (c .if5 .left))))
 
 ranges-disjoint-add-i : (t : ℕ) → ranges-disjoint-lts.Need-add-i (ranges-disjoint-claims t)
     (ranges-disjoint-at t)
@@ -280,7 +281,7 @@ ranges-disjoint-left-again : (t : ℕ) → ranges-disjoint-lts.Need-left-again (
     ranges-disjoint-μ-loop
     ranges-disjoint-Inv-left
     ranges-disjoint-μ-left
-ranges-disjoint-left-again t c = ((c .before .before .loop .inv .0), ⊎-elim (λ p. absurd (omega (arith, p .0 .left, (c .before .before .loop .inv .1 .inside)))) (λ o. ⊎-elim (λ p. turned-at (p .6) (walk-left ((c .before .before .before .before .before .before .before .before .before .before .pre .1 .1)) ((c .before .before .before .before .before .if1 .taken)) ((c .before .before .loop .inv .1)) ((c .before .before .before .before .child .ensures)) (p .1 .ensures) (p .2 .ensures) (not-false _ (p .3 .left)) ((c .before .before .before .cut .ensures)) (p .4 .ensures) (p .5 .taken))) (λ p. turned-at (p .7) (walk-both ((c .before .before .before .before .before .before .before .before .before .before .pre .1 .1)) ((c .before .before .before .before .before .if1 .taken)) ((c .before .before .loop .inv .1)) ((c .before .before .before .before .child .ensures)) (p .1 .ensures) (p .2 .ensures) (not-false _ (p .3 .left)) ((c .before .before .before .cut .ensures)) (p .4 .ensures) (p .6 .taken))) o) ((c .if2 .came)))
+ranges-disjoint-left-again t c = ((c .before .before .loop .inv .0), ⊎-elim (λ p. absurd (omega (arith, p .0 .left, (c .before .before .loop .inv .1 .inside)))) (λ o. ⊎-elim (λ p. turned-at (p .6) (walk-left (c .before .before .before .before .before .before .before .before .before .before .pre .1 .1) (c .before .before .before .before .before .if1 .taken) (c .before .before .loop .inv .1) (c .before .before .before .before .child .ensures) (p .1 .ensures) (p .2 .ensures) (not-false _ (p .3 .left)) (c .before .before .before .cut .ensures) (p .4 .ensures) (p .5 .taken))) (λ p. turned-at (p .7) (walk-both (c .before .before .before .before .before .before .before .before .before .before .pre .1 .1) (c .before .before .before .before .before .if1 .taken) (c .before .before .loop .inv .1) (c .before .before .before .before .child .ensures) (p .1 .ensures) (p .2 .ensures) (not-false _ (p .3 .left)) (c .before .before .before .cut .ensures) (p .4 .ensures) (p .6 .taken))) o) (c .if2 .came))
 
 ranges-disjoint-returns : (t : ℕ) → ranges-disjoint-lts.Need-returns (ranges-disjoint-claims t)
     (ranges-disjoint-at t)
@@ -289,7 +290,7 @@ ranges-disjoint-returns : (t : ℕ) → ranges-disjoint-lts.Need-returns (ranges
     ranges-disjoint-μ-loop
     ranges-disjoint-Inv-left
     ranges-disjoint-μ-left
-ranges-disjoint-returns t c = (c .before .before .left .inv .0) ∙ (c .before .before .left .inv .1 .over) ((c .if1 .left))
+ranges-disjoint-returns t c = (c .before .before .left .inv .0) ∙ (c .before .before .left .inv .1 .over) (c .if1 .left)
 
 ranges-disjoint-returns-2 : (t : ℕ) → ranges-disjoint-lts.Need-returns-2 (ranges-disjoint-claims t)
     (ranges-disjoint-at t)
@@ -298,7 +299,7 @@ ranges-disjoint-returns-2 : (t : ℕ) → ranges-disjoint-lts.Need-returns-2 (ra
     ranges-disjoint-μ-loop
     ranges-disjoint-Inv-left
     ranges-disjoint-μ-left
-ranges-disjoint-returns-2 t c = walk-no ((c .before .before .before .before .before .before .before .before .before .before .before .before .before .pre .1 .1)) ((c .before .before .before .before .before .before .before .before .if1 .taken)) ((c .before .before .before .before .before .loop .inv .1)) ((c .before .before .before .before .before .before .before .child .ensures)) ((c .before .before .child2 .ensures)) ((c .before .is-disjoint .ensures)) (not-true _ ((c .if3 .taken)))
+ranges-disjoint-returns-2 t c = walk-no (c .before .before .before .before .before .before .before .before .before .before .before .before .before .pre .1 .1) (c .before .before .before .before .before .before .before .before .if1 .taken) (c .before .before .before .before .before .loop .inv .1) (c .before .before .before .before .before .before .before .child .ensures) (c .before .before .child2 .ensures) (c .before .is-disjoint .ensures) (not-true _ (c .if3 .taken))
 
 pub +booleans-disjoint+is-disjoint+ranges-disjoint-spec : {M : Type 1} → statement M
 +booleans-disjoint+is-disjoint+ranges-disjoint-spec =

@@ -6,10 +6,10 @@ use Rattle.views.proofs.view_of.Statement.{statement}
 use Rattle.views.proofs.view_of.Tie as tie
 
 returns : tie.Need-returns
-returns c = other-seen ((c .before .before .before .before .before .pre .0)) ((c .before .before .before .before .before .pre .1)) ((c .before .before .before .before .before .pre .2)) ((c .before .before .wide .ensures .0)) ((c .before .var-of .ensures .0)) ((c .if1 .taken)) refl refl
+returns c = other-seen (c .before .before .before .before .before .pre .0) (c .before .before .before .before .before .pre .1) (c .before .before .before .before .before .pre .2) (c .before .before .wide .ensures .0) (c .before .var-of .ensures .0) (c .if1 .taken) refl refl
 
 returns-2 : tie.Need-returns-2
-returns-2 c = own-seen ((c .before .before .before .before .before .before .before .pre .0)) ((c .before .before .before .before .before .before .before .pre .1)) ((c .before .before .before .before .before .before .before .pre .2)) ((c .before .before .before .before .wide .ensures .0)) ((c .before .before .before .var-of .ensures .0)) ((c .before .before .if1 .left)) refl ((c .before .first-of .ensures .0)) ((c .count-of .ensures .0))
+returns-2 c = own-seen (c .before .before .before .before .before .before .before .pre .0) (c .before .before .before .before .before .before .before .pre .1) (c .before .before .before .before .before .before .before .pre .2) (c .before .before .before .before .wide .ensures .0) (c .before .before .before .var-of .ensures .0) (c .before .before .if1 .left) refl (c .before .first-of .ensures .0) (c .count-of .ensures .0)
 
 pub view-of-spec : {M : Type 1} → statement M
 view-of-spec =

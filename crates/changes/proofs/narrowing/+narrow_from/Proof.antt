@@ -26,6 +26,7 @@ use Rattle.walks.proofs.steps.left_after.Reads as left-after-reads
 use Rattle.walks.proofs.steps.turn.Reads as turn-reads
 use Rattle.changes.proofs.narrowing.+narrow_from.{statement}
 use Rattle.changes.proofs.narrowing.+narrow_from.Tie.{close}
+use Rattle.table.specs.Layout.{store}
 
 abbrev μ-narrow-from : Measures 5 narrow-from-kinds.ps ℕ
 μ-narrow-from κs a = a .1 .1 .1 .1 .1 .1 .1 .1 .1 .0
@@ -40,7 +41,7 @@ narrow-from-below t =
 
 abbrev narrow-from-Inv-loop : narrow-from-lts.InvT-loop
 narrow-from-Inv-loop nodes₀ children₀ cuts₀ index₀ memo₀ id v range ahead u a out₀ now₀ ok₀ left₀ nodes children cuts index memo out now ok left =
-    Gather (changed v (narrowing range)) now₀ nodes₀ children₀ cuts₀ memo₀ a u (Changed v (narrowing range)) now nodes children cuts index memo out ok left
+    Gather (changed v (narrowing range)) now₀ (store nodes₀ children₀ cuts₀) memo₀ a u (Changed v (narrowing range)) now (store nodes children cuts) index memo out ok left
 
 abbrev narrow-from-μ-loop : narrow-from-lts.MeasureT-loop
 narrow-from-μ-loop nodes₀ children₀ cuts₀ index₀ memo₀ id v range ahead u a out₀ now₀ ok₀ left₀ nodes children cuts index memo out now ok left =
@@ -83,14 +84,14 @@ narrow-from-view-of-requires : (t : ℕ) → narrow-from-lts.Need-view-of-requir
 narrow-from-view-of-requires t c κs = (can-read (c .before .before .before .before .before .before .before .before .before .before .before .before .before .before .before .before .before .before .before .pre .1 .0), before-is-node (c .before .before .before .before .before .before .before .before .before .before .before .before .before .before .before .before .before .before .before .pre .1 .0) (c .before .before .before .before .before .before .before .before .before .before .before .before .before .before .before .before .before .before .before .pre .1 .1) (is-variable (c .before .before .before .before .before .before .before .before .before .before .before .before .before .before .before .before .before .before .before .pre .1 .2)) (narrow-changes (c .before .before .before .before .before .before .before .before .before .before .before .before .before .before .before .before .before .before .before .pre .1 .2) (c .before .before .before .before .before .before .before .before .before .before .before .before .before .before .before .before .before .before .before .args .range) (c .before .before .before .before .before .before .before .before .before .before .before .before .before .before .before .before .before .before .before .pre .1 .4)) (c .before .before .before .before .before .before .before .before .before .before .before .is-before .ensures) (c .before .before .before .before .before .before .before .before .before .before .if1 .left), c .before .before .before .before .before .before .before .before .before .before .before .before .before .before .before .before .before .before .before .pre .1 .1 .known)
 
 -- What is known once the view is had.
-entered : (t : ℕ) (c : narrow-from-lts.After-view-of (narrow-from-claims t) (narrow-from-at t) narrow-from.Post narrow-from-Inv-loop narrow-from-μ-loop) → Entered (c .before .before .before .before .before .before .before .before .before .before .before .before .before .before .before .before .before .before .before .before .args .v) (narrowing (c .before .before .before .before .before .before .before .before .before .before .before .before .before .before .before .before .before .before .before .before .args .range)) (c .before .before .before .before .before .before .before .before .before .before .before .before .before .before .before .before .before .before .before .before .args .head) (c .before .before .before .before .before .before .before .before .before .before .before .before .before .before .before .before .before .before .before .before .args .nodes .now) (c .before .before .before .before .before .before .before .before .before .before .before .before .before .before .before .before .before .before .before .before .args .children .now) (c .before .before .before .before .before .before .before .before .before .before .before .before .before .before .before .before .before .before .before .before .args .cuts .now) (c .before .before .before .before .before .before .before .before .before .before .before .before .before .before .before .before .before .before .before .before .args .index .now) (c .before .before .before .before .before .before .before .before .before .before .before .before .before .before .before .before .before .before .before .before .args .memo .now) (c .before .before .before .before .before .before .before .before .before .before .before .before .before .before .before .before .before .before .before .before .args .ahead) (c .before .before .before .before .before .before .before .before .before .before .before .before .before .before .before .before .before .before .before .before .args .id .0) (c .before .before .before .before .variable .result) (c .view-of .result)
+entered : (t : ℕ) (c : narrow-from-lts.After-view-of (narrow-from-claims t) (narrow-from-at t) narrow-from.Post narrow-from-Inv-loop narrow-from-μ-loop) → Entered (c .before .before .before .before .before .before .before .before .before .before .before .before .before .before .before .before .before .before .before .before .args .v) (narrowing (c .before .before .before .before .before .before .before .before .before .before .before .before .before .before .before .before .before .before .before .before .args .range)) (c .before .before .before .before .before .before .before .before .before .before .before .before .before .before .before .before .before .before .before .before .args .head) (store (c .before .before .before .before .before .before .before .before .before .before .before .before .before .before .before .before .before .before .before .before .args .nodes .now) (c .before .before .before .before .before .before .before .before .before .before .before .before .before .before .before .before .before .before .before .before .args .children .now) (c .before .before .before .before .before .before .before .before .before .before .before .before .before .before .before .before .before .before .before .before .args .cuts .now)) (c .before .before .before .before .before .before .before .before .before .before .before .before .before .before .before .before .before .before .before .before .args .index .now) (c .before .before .before .before .before .before .before .before .before .before .before .before .before .before .before .before .before .before .before .before .args .memo .now) (c .before .before .before .before .before .before .before .before .before .before .before .before .before .before .before .before .before .before .before .before .args .ahead) (c .before .before .before .before .before .before .before .before .before .before .before .before .before .before .before .before .before .before .before .before .args .id .0) (c .before .before .before .before .variable .result) (c .view-of .result)
 entered t c = record { known = (is-variable (c .before .before .before .before .before .before .before .before .before .before .before .before .before .before .before .before .before .before .before .before .pre .1 .2)); changes = (narrow-changes (c .before .before .before .before .before .before .before .before .before .before .before .before .before .before .before .before .before .before .before .before .pre .1 .2) (c .before .before .before .before .before .before .before .before .before .before .before .before .before .before .before .before .before .before .before .before .args .range) (c .before .before .before .before .before .before .before .before .before .before .before .before .before .before .before .before .before .before .before .before .pre .1 .4)); ready = (c .before .before .before .before .before .before .before .before .before .before .before .before .before .before .before .before .before .before .before .before .pre .1 .0); asked = (c .before .before .before .before .before .before .before .before .before .before .before .before .before .before .before .before .before .before .before .before .pre .1 .1); before = still-before (c .before .before .before .before .before .before .before .before .before .before .before .before .is-before .ensures) (c .before .before .before .before .before .before .before .before .before .before .before .if1 .left); variable = (c .before .before .before .before .variable .ensures .0); view = (c .view-of .ensures) }
 
 narrow-from-loop-holds : (t : ℕ) → narrow-from-lts.Need-loop-holds (narrow-from-claims t) (narrow-from-at t) narrow-from.Post narrow-from-Inv-loop narrow-from-μ-loop
 narrow-from-loop-holds t c = starts (entered t (c .before)) (c .new .result) (c .new .ensures .0)
 
 narrow-from-turn-requires : (t : ℕ) → narrow-from-lts.Need-turn-requires (narrow-from-claims t) (narrow-from-at t) narrow-from.Post narrow-from-Inv-loop narrow-from-μ-loop
-narrow-from-turn-requires t c κs = (omega (arith, ((c .loop-test .taken))), (c .before .loop .inv .most))
+narrow-from-turn-requires t c κs = (omega (arith, (c .loop-test .taken)), (c .before .loop .inv .most))
 
 narrow-from-cut-of-requires : (t : ℕ) → narrow-from-lts.Need-cut-of-requires (narrow-from-claims t) (narrow-from-at t) narrow-from.Post narrow-from-Inv-loop narrow-from-μ-loop
 narrow-from-cut-of-requires t c κs = (in-cuts (entered t (c .before .before .before .before .before)) (c .before .before .before .loop .inv), in-view (entered t (c .before .before .before .before .before)) (c .before .before .before .loop .inv) (c .before .before .loop-test .taken) (c .before .turn .ensures))
@@ -99,7 +100,7 @@ narrow-from-child-requires : (t : ℕ) → narrow-from-lts.Need-child-requires (
 narrow-from-child-requires t c κs = (in-children (entered t (c .before .before .before .before .before .before .before)) (c .before .before .before .before .before .loop .inv), in-view (entered t (c .before .before .before .before .before .before .before)) (c .before .before .before .before .before .loop .inv) (c .before .before .before .before .loop-test .taken) (c .before .before .before .turn .ensures))
 
 narrow-from-sub-narrow-from : (t : ℕ) → narrow-from-lts.Need-sub-narrow-from (narrow-from-claims t) (narrow-from-at t) narrow-from.Post narrow-from-Inv-loop narrow-from-μ-loop
-narrow-from-sub-narrow-from t c = call-left ((c .before .before .before .before .before .before .before .before .before .before .before .before .before .before .before .before .before .before .before .before .before .before .before .before .before .before .before .before .before .before .before .before .before .pre .1 .0)) ((c .before .before .before .before .before .before .before .before .before .before .before .before .before .before .before .before .before .before .before .before .before .before .before .before .before .before .before .before .before .before .before .before .before .pre .1 .1))
+narrow-from-sub-narrow-from t c = call-left (c .before .before .before .before .before .before .before .before .before .before .before .before .before .before .before .before .before .before .before .before .before .before .before .before .before .before .before .before .before .before .before .before .before .pre .1 .0) (c .before .before .before .before .before .before .before .before .before .before .before .before .before .before .before .before .before .before .before .before .before .before .before .before .before .before .before .before .before .before .before .before .before .pre .1 .1)
 
 narrow-from-narrow-from-requires : (t : ℕ) → narrow-from-lts.Need-narrow-from-requires (narrow-from-claims t) (narrow-from-at t) narrow-from.Post narrow-from-Inv-loop narrow-from-μ-loop
 narrow-from-narrow-from-requires t c κs = (omega (arith, c .before .before .before .before .before .before .before .before .before .before .before .before .before .before .before .before .before .before .before .before .before .before .before .before .before .before .before .before .before .before .before .before .before .pre .0, call-left (c .before .before .before .before .before .before .before .before .before .before .before .before .before .before .before .before .before .before .before .before .before .before .before .before .before .before .before .before .before .before .before .before .before .pre .1 .0) (c .before .before .before .before .before .before .before .before .before .before .before .before .before .before .before .before .before .before .before .before .before .before .before .before .before .before .before .before .before .before .before .before .before .pre .1 .1)), ((c .before .before .before .before .before .before .before .before .before .before .before .loop .inv .ready), below-asked (entered t (c .before .before .before .before .before .before .before .before .before .before .before .before .before)) (c .before .before .before .before .before .before .before .before .before .before .before .loop .inv) (c .before .before .before .before .before .before .before .before .before .before .loop-test .taken) (c .before .before .before .before .before .before .before .before .before .turn .ensures) (c .before .before .before .before .before .child .ensures), c .before .before .before .before .before .before .before .before .before .before .before .before .before .before .before .before .before .before .before .before .before .before .before .before .before .before .before .before .before .before .before .before .before .pre .1 .2, c .before .before .before .before .before .before .before .before .before .before .before .before .before .before .before .before .before .before .before .before .before .before .before .before .before .before .before .before .before .before .before .before .before .pre .1 .3, c .before .before .before .before .before .before .before .before .before .before .before .before .before .before .before .before .before .before .before .before .before .before .before .before .before .before .before .before .before .before .before .before .before .pre .1 .4))
@@ -111,7 +112,7 @@ narrow-from-element-set-from-out : (t : ℕ) → narrow-from-lts.Need-element-se
 narrow-from-element-set-from-out t c = omega (arith, in-slots (entered t (c .before .before .before .before .before .before .before .before .before .before .before .before .before .before .before .before .before .before .before .before .before .before .before .before)) (c .before .before .before .before .before .before .before .before .before .before .before .before .before .before .before .before .before .before .before .before .before .before .loop .inv) (c .before .before .before .before .before .before .before .before .before .before .before .before .before .before .before .before .before .before .before .before .before .loop-test .taken) (c .before .before .before .before .before .before .before .before .before .before .before .before .before .before .before .before .before .before .before .before .turn .ensures), c .before .before .before .before .before .before .before .before .before .before .before .before .before .before .before .before .before .before .before .before .before .before .loop .inv .size)
 
 narrow-from-left-after-requires : (t : ℕ) → narrow-from-lts.Need-left-after-requires (narrow-from-claims t) (narrow-from-at t) narrow-from.Post narrow-from-Inv-loop narrow-from-μ-loop
-narrow-from-left-after-requires t c κs = omega (arith, ((c .before .before .before .before .before .before .before .before .before .before .before .before .before .before .before .before .before .before .before .before .before .before .loop-test .taken)))
+narrow-from-left-after-requires t c κs = omega (arith, (c .before .before .before .before .before .before .before .before .before .before .before .before .before .before .before .before .before .before .before .before .before .before .loop-test .taken))
 
 narrow-from-loop-less : (t : ℕ) → narrow-from-lts.Need-loop-less (narrow-from-claims t) (narrow-from-at t) narrow-from.Post narrow-from-Inv-loop narrow-from-μ-loop
 narrow-from-loop-less t c = loop-falls (entered t (c .before .before .before .before .before .before .before .before .before .before .before .before .before .before .before .before .before .before .before .before .before .before .before .before .before .before)) (c .before .before .before .before .before .before .before .before .before .before .before .before .before .before .before .before .before .before .before .before .before .before .before .before .loop .inv) (c .before .before .before .before .before .before .before .before .before .before .before .before .before .before .before .before .before .before .before .before .before .before .before .loop-test .taken) (c .before .before .before .before .before .before .before .before .before .before .before .before .before .before .before .before .before .before .before .before .before .before .turn .ensures) (c .before .before .before .before .before .before .before .before .before .before .before .before .before .before .before .before .before .before .child .ensures) (c .before .before .before .before .before .before .before .before .before .before .before .before .before .before .before .before .before .before .before .before .cut-of .ensures) (c .before .before .before .before .before .before .before .before .before .before .before .before .narrow-from .ensures) (c .left-after .ensures)

@@ -26,6 +26,7 @@ use Rattle.walks.proofs.steps.left_after.Reads as left-after-reads
 use Rattle.walks.proofs.steps.turn.Reads as turn-reads
 use Rattle.changes.proofs.restriction.+restrict_from.{statement}
 use Rattle.changes.proofs.restriction.+restrict_from.Tie.{close}
+use Rattle.table.specs.Layout.{store}
 
 abbrev μ-restrict-from : Measures 5 restrict-from-kinds.ps ℕ
 μ-restrict-from κs a = a .1 .1 .1 .1 .1 .1 .1 .1 .1 .0
@@ -44,7 +45,7 @@ restrict-from-below t =
 
 abbrev restrict-from-Inv-loop : restrict-from-lts.InvT-loop
 restrict-from-Inv-loop nodes₀ children₀ cuts₀ index₀ memo₀ id v value ahead u a out₀ now₀ ok₀ left₀ nodes children cuts index memo out now ok left =
-    Gather (changed v (restricting value)) now₀ nodes₀ children₀ cuts₀ memo₀ a u (Changed v (restricting value)) now nodes children cuts index memo out ok left
+    Gather (changed v (restricting value)) now₀ (store nodes₀ children₀ cuts₀) memo₀ a u (Changed v (restricting value)) now (store nodes children cuts) index memo out ok left
 
 abbrev restrict-from-μ-loop : restrict-from-lts.MeasureT-loop
 restrict-from-μ-loop nodes₀ children₀ cuts₀ index₀ memo₀ id v value ahead u a out₀ now₀ ok₀ left₀ nodes children cuts index memo out now ok left =
@@ -57,10 +58,10 @@ restrict-from-is-before-requires : (t : ℕ) → restrict-from-lts.Need-is-befor
 restrict-from-is-before-requires t c κs = (can-read (c .before .before .before .before .before .before .before .pre .1 .0), c .before .before .before .before .before .before .before .pre .1 .1 .known, c .before .before .before .before .before .before .before .pre .1 .3)
 
 restrict-from-chosen-requires : (t : ℕ) → restrict-from-lts.Need-chosen-requires (restrict-from-claims t) (restrict-from-at t) restrict-from.Post restrict-from-Inv-loop restrict-from-μ-loop
-restrict-from-chosen-requires t c κs = (can-read ((c .before .before .before .before .before .before .before .before .before .before .before .before .pre .1 .0)), (c .before .before .before .before .before .before .before .before .before .before .before .before .pre .1 .1 .known), (c .before .before .before .before .before .before .before .before .before .before .before .before .pre .1 .2), (c .before .before .before .before .before .before .before .before .before .before .before .before .pre .1 .3))
+restrict-from-chosen-requires t c κs = (can-read (c .before .before .before .before .before .before .before .before .before .before .before .before .pre .1 .0), (c .before .before .before .before .before .before .before .before .before .before .before .before .pre .1 .1 .known), (c .before .before .before .before .before .before .before .before .before .before .before .before .pre .1 .2), (c .before .before .before .before .before .before .before .before .before .before .before .before .pre .1 .3))
 
 restrict-from-returns : (t : ℕ) → restrict-from-lts.Need-returns (restrict-from-claims t) (restrict-from-at t) restrict-from.Post restrict-from-Inv-loop restrict-from-μ-loop
-restrict-from-returns t c = settled ((c .before .before .before .before .before .before .before .before .before .before .before .before .before .pre .1 .0)) _ (chosen-here ((c .before .before .before .before .before .before .before .before .before .before .before .before .before .pre .1 .3)) ((c .before .before .before .before .before .before .before .before .before .before .before .before .before .args .value)) ((c .before .before .before .before .before .before .before .before .before .before .before .before .before .pre .1 .0)) ((c .before .before .before .before .before .before .before .before .before .before .before .before .before .pre .1 .1)) ((c .before .before .before .before .before .is-before .ensures)) (not-true _ ((c .before .before .before .before .if1 .taken))) ((c .chosen .ensures)))
+restrict-from-returns t c = settled (c .before .before .before .before .before .before .before .before .before .before .before .before .before .pre .1 .0) _ (chosen-here (c .before .before .before .before .before .before .before .before .before .before .before .before .before .pre .1 .3) (c .before .before .before .before .before .before .before .before .before .before .before .before .before .args .value) (c .before .before .before .before .before .before .before .before .before .before .before .before .before .pre .1 .0) (c .before .before .before .before .before .before .before .before .before .before .before .before .before .pre .1 .1) (c .before .before .before .before .before .is-before .ensures) (not-true _ (c .before .before .before .before .if1 .taken)) (c .chosen .ensures))
 
 restrict-from-recall-requires : (t : ℕ) → restrict-from-lts.Need-recall-requires (restrict-from-claims t) (restrict-from-at t) restrict-from.Post restrict-from-Inv-loop restrict-from-μ-loop
 restrict-from-recall-requires t c κs = ((c .before .before .before .before .before .before .before .before .before .before .pre .1 .0 .lent .allowed .some-nodes), (c .before .before .before .before .before .before .before .before .before .before .pre .1 .0 .lent .allowed .most-nodes), (c .before .before .before .before .before .before .before .before .before .before .pre .1 .0 .long))
@@ -75,14 +76,14 @@ restrict-from-view-of-requires : (t : ℕ) → restrict-from-lts.Need-view-of-re
 restrict-from-view-of-requires t c κs = (can-read (c .before .before .before .before .before .before .before .before .before .before .before .before .before .before .before .before .before .before .before .pre .1 .0), before-is-node (c .before .before .before .before .before .before .before .before .before .before .before .before .before .before .before .before .before .before .before .pre .1 .0) (c .before .before .before .before .before .before .before .before .before .before .before .before .before .before .before .before .before .before .before .pre .1 .1) (c .before .before .before .before .before .before .before .before .before .before .before .before .before .before .before .before .before .before .before .pre .1 .3) (restricts (c .before .before .before .before .before .before .before .before .before .before .before .before .before .before .before .before .before .before .before .args .v) (c .before .before .before .before .before .before .before .before .before .before .before .before .before .before .before .before .before .before .before .args .value)) (c .before .before .before .before .before .before .before .before .before .before .before .is-before .ensures) (c .before .before .before .before .before .before .before .before .before .before .if1 .left), c .before .before .before .before .before .before .before .before .before .before .before .before .before .before .before .before .before .before .before .pre .1 .1 .known)
 
 -- What is known once the view is had.
-entered : (t : ℕ) (c : restrict-from-lts.After-view-of (restrict-from-claims t) (restrict-from-at t) restrict-from.Post restrict-from-Inv-loop restrict-from-μ-loop) → Entered (c .before .before .before .before .before .before .before .before .before .before .before .before .before .before .before .before .before .before .before .before .args .v) (restricting (c .before .before .before .before .before .before .before .before .before .before .before .before .before .before .before .before .before .before .before .before .args .value)) (c .before .before .before .before .before .before .before .before .before .before .before .before .before .before .before .before .before .before .before .before .args .head) (c .before .before .before .before .before .before .before .before .before .before .before .before .before .before .before .before .before .before .before .before .args .nodes .now) (c .before .before .before .before .before .before .before .before .before .before .before .before .before .before .before .before .before .before .before .before .args .children .now) (c .before .before .before .before .before .before .before .before .before .before .before .before .before .before .before .before .before .before .before .before .args .cuts .now) (c .before .before .before .before .before .before .before .before .before .before .before .before .before .before .before .before .before .before .before .before .args .index .now) (c .before .before .before .before .before .before .before .before .before .before .before .before .before .before .before .before .before .before .before .before .args .memo .now) (c .before .before .before .before .before .before .before .before .before .before .before .before .before .before .before .before .before .before .before .before .args .ahead) (c .before .before .before .before .before .before .before .before .before .before .before .before .before .before .before .before .before .before .before .before .args .id .0) (c .before .before .before .before .variable .result) (c .view-of .result)
+entered : (t : ℕ) (c : restrict-from-lts.After-view-of (restrict-from-claims t) (restrict-from-at t) restrict-from.Post restrict-from-Inv-loop restrict-from-μ-loop) → Entered (c .before .before .before .before .before .before .before .before .before .before .before .before .before .before .before .before .before .before .before .before .args .v) (restricting (c .before .before .before .before .before .before .before .before .before .before .before .before .before .before .before .before .before .before .before .before .args .value)) (c .before .before .before .before .before .before .before .before .before .before .before .before .before .before .before .before .before .before .before .before .args .head) (store (c .before .before .before .before .before .before .before .before .before .before .before .before .before .before .before .before .before .before .before .before .args .nodes .now) (c .before .before .before .before .before .before .before .before .before .before .before .before .before .before .before .before .before .before .before .before .args .children .now) (c .before .before .before .before .before .before .before .before .before .before .before .before .before .before .before .before .before .before .before .before .args .cuts .now)) (c .before .before .before .before .before .before .before .before .before .before .before .before .before .before .before .before .before .before .before .before .args .index .now) (c .before .before .before .before .before .before .before .before .before .before .before .before .before .before .before .before .before .before .before .before .args .memo .now) (c .before .before .before .before .before .before .before .before .before .before .before .before .before .before .before .before .before .before .before .before .args .ahead) (c .before .before .before .before .before .before .before .before .before .before .before .before .before .before .before .before .before .before .before .before .args .id .0) (c .before .before .before .before .variable .result) (c .view-of .result)
 entered t c = record { known = (c .before .before .before .before .before .before .before .before .before .before .before .before .before .before .before .before .before .before .before .before .pre .1 .3); changes = (restricts (c .before .before .before .before .before .before .before .before .before .before .before .before .before .before .before .before .before .before .before .before .args .v) (c .before .before .before .before .before .before .before .before .before .before .before .before .before .before .before .before .before .before .before .before .args .value)); ready = (c .before .before .before .before .before .before .before .before .before .before .before .before .before .before .before .before .before .before .before .before .pre .1 .0); asked = (c .before .before .before .before .before .before .before .before .before .before .before .before .before .before .before .before .before .before .before .before .pre .1 .1); before = still-before (c .before .before .before .before .before .before .before .before .before .before .before .before .is-before .ensures) (c .before .before .before .before .before .before .before .before .before .before .before .if1 .left); variable = (c .before .before .before .before .variable .ensures .0); view = (c .view-of .ensures) }
 
 restrict-from-loop-holds : (t : ℕ) → restrict-from-lts.Need-loop-holds (restrict-from-claims t) (restrict-from-at t) restrict-from.Post restrict-from-Inv-loop restrict-from-μ-loop
 restrict-from-loop-holds t c = starts (entered t (c .before)) (c .new .result) (c .new .ensures .0)
 
 restrict-from-turn-requires : (t : ℕ) → restrict-from-lts.Need-turn-requires (restrict-from-claims t) (restrict-from-at t) restrict-from.Post restrict-from-Inv-loop restrict-from-μ-loop
-restrict-from-turn-requires t c κs = (omega (arith, ((c .loop-test .taken))), (c .before .loop .inv .most))
+restrict-from-turn-requires t c κs = (omega (arith, (c .loop-test .taken)), (c .before .loop .inv .most))
 
 restrict-from-cut-of-requires : (t : ℕ) → restrict-from-lts.Need-cut-of-requires (restrict-from-claims t) (restrict-from-at t) restrict-from.Post restrict-from-Inv-loop restrict-from-μ-loop
 restrict-from-cut-of-requires t c κs = (in-cuts (entered t (c .before .before .before .before .before)) (c .before .before .before .loop .inv), in-view (entered t (c .before .before .before .before .before)) (c .before .before .before .loop .inv) (c .before .before .loop-test .taken) (c .before .turn .ensures))
@@ -91,7 +92,7 @@ restrict-from-child-requires : (t : ℕ) → restrict-from-lts.Need-child-requir
 restrict-from-child-requires t c κs = (in-children (entered t (c .before .before .before .before .before .before .before)) (c .before .before .before .before .before .loop .inv), in-view (entered t (c .before .before .before .before .before .before .before)) (c .before .before .before .before .before .loop .inv) (c .before .before .before .before .loop-test .taken) (c .before .before .before .turn .ensures))
 
 restrict-from-sub-restrict-from : (t : ℕ) → restrict-from-lts.Need-sub-restrict-from (restrict-from-claims t) (restrict-from-at t) restrict-from.Post restrict-from-Inv-loop restrict-from-μ-loop
-restrict-from-sub-restrict-from t c = call-left ((c .before .before .before .before .before .before .before .before .before .before .before .before .before .before .before .before .before .before .before .before .before .before .before .before .before .before .before .before .before .before .before .before .before .pre .1 .0)) ((c .before .before .before .before .before .before .before .before .before .before .before .before .before .before .before .before .before .before .before .before .before .before .before .before .before .before .before .before .before .before .before .before .before .pre .1 .1))
+restrict-from-sub-restrict-from t c = call-left (c .before .before .before .before .before .before .before .before .before .before .before .before .before .before .before .before .before .before .before .before .before .before .before .before .before .before .before .before .before .before .before .before .before .pre .1 .0) (c .before .before .before .before .before .before .before .before .before .before .before .before .before .before .before .before .before .before .before .before .before .before .before .before .before .before .before .before .before .before .before .before .before .pre .1 .1)
 
 restrict-from-restrict-from-requires : (t : ℕ) → restrict-from-lts.Need-restrict-from-requires (restrict-from-claims t) (restrict-from-at t) restrict-from.Post restrict-from-Inv-loop restrict-from-μ-loop
 restrict-from-restrict-from-requires t c κs = (omega (arith, c .before .before .before .before .before .before .before .before .before .before .before .before .before .before .before .before .before .before .before .before .before .before .before .before .before .before .before .before .before .before .before .before .before .pre .0, call-left (c .before .before .before .before .before .before .before .before .before .before .before .before .before .before .before .before .before .before .before .before .before .before .before .before .before .before .before .before .before .before .before .before .before .pre .1 .0) (c .before .before .before .before .before .before .before .before .before .before .before .before .before .before .before .before .before .before .before .before .before .before .before .before .before .before .before .before .before .before .before .before .before .pre .1 .1)), ((c .before .before .before .before .before .before .before .before .before .before .before .loop .inv .ready), below-asked (entered t (c .before .before .before .before .before .before .before .before .before .before .before .before .before)) (c .before .before .before .before .before .before .before .before .before .before .before .loop .inv) (c .before .before .before .before .before .before .before .before .before .before .loop-test .taken) (c .before .before .before .before .before .before .before .before .before .turn .ensures) (c .before .before .before .before .before .child .ensures), c .before .before .before .before .before .before .before .before .before .before .before .before .before .before .before .before .before .before .before .before .before .before .before .before .before .before .before .before .before .before .before .before .before .pre .1 .2, c .before .before .before .before .before .before .before .before .before .before .before .before .before .before .before .before .before .before .before .before .before .before .before .before .before .before .before .before .before .before .before .before .before .pre .1 .3))
@@ -103,7 +104,7 @@ restrict-from-element-set-from-out : (t : ℕ) → restrict-from-lts.Need-elemen
 restrict-from-element-set-from-out t c = omega (arith, in-slots (entered t (c .before .before .before .before .before .before .before .before .before .before .before .before .before .before .before .before .before .before .before .before .before .before .before .before)) (c .before .before .before .before .before .before .before .before .before .before .before .before .before .before .before .before .before .before .before .before .before .before .loop .inv) (c .before .before .before .before .before .before .before .before .before .before .before .before .before .before .before .before .before .before .before .before .before .loop-test .taken) (c .before .before .before .before .before .before .before .before .before .before .before .before .before .before .before .before .before .before .before .before .turn .ensures), c .before .before .before .before .before .before .before .before .before .before .before .before .before .before .before .before .before .before .before .before .before .before .loop .inv .size)
 
 restrict-from-left-after-requires : (t : ℕ) → restrict-from-lts.Need-left-after-requires (restrict-from-claims t) (restrict-from-at t) restrict-from.Post restrict-from-Inv-loop restrict-from-μ-loop
-restrict-from-left-after-requires t c κs = omega (arith, ((c .before .before .before .before .before .before .before .before .before .before .before .before .before .before .before .before .before .before .before .before .before .before .loop-test .taken)))
+restrict-from-left-after-requires t c κs = omega (arith, (c .before .before .before .before .before .before .before .before .before .before .before .before .before .before .before .before .before .before .before .before .before .before .loop-test .taken))
 
 restrict-from-loop-less : (t : ℕ) → restrict-from-lts.Need-loop-less (restrict-from-claims t) (restrict-from-at t) restrict-from.Post restrict-from-Inv-loop restrict-from-μ-loop
 restrict-from-loop-less t c = loop-falls (entered t (c .before .before .before .before .before .before .before .before .before .before .before .before .before .before .before .before .before .before .before .before .before .before .before .before .before .before)) (c .before .before .before .before .before .before .before .before .before .before .before .before .before .before .before .before .before .before .before .before .before .before .before .before .loop .inv) (c .before .before .before .before .before .before .before .before .before .before .before .before .before .before .before .before .before .before .before .before .before .before .before .loop-test .taken) (c .before .before .before .before .before .before .before .before .before .before .before .before .before .before .before .before .before .before .before .before .before .before .turn .ensures) (c .before .before .before .before .before .before .before .before .before .before .before .before .before .before .before .before .before .before .child .ensures) (c .before .before .before .before .before .before .before .before .before .before .before .before .before .before .before .before .before .before .before .before .cut-of .ensures) (c .before .before .before .before .before .before .before .before .before .before .before .before .restrict-from .ensures) (c .left-after .ensures)

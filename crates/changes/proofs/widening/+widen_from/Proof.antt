@@ -26,6 +26,7 @@ use Rattle.walks.proofs.steps.left_after.Reads as left-after-reads
 use Rattle.walks.proofs.steps.turn.Reads as turn-reads
 use Rattle.changes.proofs.widening.+widen_from.{statement}
 use Rattle.changes.proofs.widening.+widen_from.Tie.{close}
+use Rattle.table.specs.Layout.{store}
 
 abbrev μ-widen-from : Measures 5 widen-from-kinds.ps ℕ
 μ-widen-from κs a = a .1 .1 .1 .1 .1 .1 .1 .1 .1 .0
@@ -40,7 +41,7 @@ widen-from-below t =
 
 abbrev widen-from-Inv-loop : widen-from-lts.InvT-loop
 widen-from-Inv-loop nodes₀ children₀ cuts₀ index₀ memo₀ id v range ahead u a out₀ now₀ ok₀ left₀ nodes children cuts index memo out now ok left =
-    Gather (changed v (widening v range)) now₀ nodes₀ children₀ cuts₀ memo₀ a u (Changed v (widening v range)) now nodes children cuts index memo out ok left
+    Gather (changed v (widening v range)) now₀ (store nodes₀ children₀ cuts₀) memo₀ a u (Changed v (widening v range)) now (store nodes children cuts) index memo out ok left
 
 abbrev widen-from-μ-loop : widen-from-lts.MeasureT-loop
 widen-from-μ-loop nodes₀ children₀ cuts₀ index₀ memo₀ id v range ahead u a out₀ now₀ ok₀ left₀ nodes children cuts index memo out now ok left =
@@ -83,14 +84,14 @@ widen-from-view-of-requires : (t : ℕ) → widen-from-lts.Need-view-of-requires
 widen-from-view-of-requires t c κs = (can-read (c .before .before .before .before .before .before .before .before .before .before .before .before .before .before .before .before .before .before .before .pre .1 .0), before-is-node (c .before .before .before .before .before .before .before .before .before .before .before .before .before .before .before .before .before .before .before .pre .1 .0) (c .before .before .before .before .before .before .before .before .before .before .before .before .before .before .before .before .before .before .before .pre .1 .1) (is-variable (c .before .before .before .before .before .before .before .before .before .before .before .before .before .before .before .before .before .before .before .pre .1 .2)) (widen-changes (c .before .before .before .before .before .before .before .before .before .before .before .before .before .before .before .before .before .before .before .pre .1 .2) (c .before .before .before .before .before .before .before .before .before .before .before .before .before .before .before .before .before .before .before .args .range) (c .before .before .before .before .before .before .before .before .before .before .before .before .before .before .before .before .before .before .before .pre .1 .3) (c .before .before .before .before .before .before .before .before .before .before .before .before .before .before .before .before .before .before .before .pre .1 .4)) (c .before .before .before .before .before .before .before .before .before .before .before .is-before .ensures) (c .before .before .before .before .before .before .before .before .before .before .if1 .left), c .before .before .before .before .before .before .before .before .before .before .before .before .before .before .before .before .before .before .before .pre .1 .1 .known)
 
 -- What is known once the view is had.
-entered : (t : ℕ) (c : widen-from-lts.After-view-of (widen-from-claims t) (widen-from-at t) widen-from.Post widen-from-Inv-loop widen-from-μ-loop) → Entered (c .before .before .before .before .before .before .before .before .before .before .before .before .before .before .before .before .before .before .before .before .args .v) (widening (c .before .before .before .before .before .before .before .before .before .before .before .before .before .before .before .before .before .before .before .before .args .v) (c .before .before .before .before .before .before .before .before .before .before .before .before .before .before .before .before .before .before .before .before .args .range)) (c .before .before .before .before .before .before .before .before .before .before .before .before .before .before .before .before .before .before .before .before .args .head) (c .before .before .before .before .before .before .before .before .before .before .before .before .before .before .before .before .before .before .before .before .args .nodes .now) (c .before .before .before .before .before .before .before .before .before .before .before .before .before .before .before .before .before .before .before .before .args .children .now) (c .before .before .before .before .before .before .before .before .before .before .before .before .before .before .before .before .before .before .before .before .args .cuts .now) (c .before .before .before .before .before .before .before .before .before .before .before .before .before .before .before .before .before .before .before .before .args .index .now) (c .before .before .before .before .before .before .before .before .before .before .before .before .before .before .before .before .before .before .before .before .args .memo .now) (c .before .before .before .before .before .before .before .before .before .before .before .before .before .before .before .before .before .before .before .before .args .ahead) (c .before .before .before .before .before .before .before .before .before .before .before .before .before .before .before .before .before .before .before .before .args .id .0) (c .before .before .before .before .variable .result) (c .view-of .result)
+entered : (t : ℕ) (c : widen-from-lts.After-view-of (widen-from-claims t) (widen-from-at t) widen-from.Post widen-from-Inv-loop widen-from-μ-loop) → Entered (c .before .before .before .before .before .before .before .before .before .before .before .before .before .before .before .before .before .before .before .before .args .v) (widening (c .before .before .before .before .before .before .before .before .before .before .before .before .before .before .before .before .before .before .before .before .args .v) (c .before .before .before .before .before .before .before .before .before .before .before .before .before .before .before .before .before .before .before .before .args .range)) (c .before .before .before .before .before .before .before .before .before .before .before .before .before .before .before .before .before .before .before .before .args .head) (store (c .before .before .before .before .before .before .before .before .before .before .before .before .before .before .before .before .before .before .before .before .args .nodes .now) (c .before .before .before .before .before .before .before .before .before .before .before .before .before .before .before .before .before .before .before .before .args .children .now) (c .before .before .before .before .before .before .before .before .before .before .before .before .before .before .before .before .before .before .before .before .args .cuts .now)) (c .before .before .before .before .before .before .before .before .before .before .before .before .before .before .before .before .before .before .before .before .args .index .now) (c .before .before .before .before .before .before .before .before .before .before .before .before .before .before .before .before .before .before .before .before .args .memo .now) (c .before .before .before .before .before .before .before .before .before .before .before .before .before .before .before .before .before .before .before .before .args .ahead) (c .before .before .before .before .before .before .before .before .before .before .before .before .before .before .before .before .before .before .before .before .args .id .0) (c .before .before .before .before .variable .result) (c .view-of .result)
 entered t c = record { known = (is-variable (c .before .before .before .before .before .before .before .before .before .before .before .before .before .before .before .before .before .before .before .before .pre .1 .2)); changes = (widen-changes (c .before .before .before .before .before .before .before .before .before .before .before .before .before .before .before .before .before .before .before .before .pre .1 .2) (c .before .before .before .before .before .before .before .before .before .before .before .before .before .before .before .before .before .before .before .before .args .range) (c .before .before .before .before .before .before .before .before .before .before .before .before .before .before .before .before .before .before .before .before .pre .1 .3) (c .before .before .before .before .before .before .before .before .before .before .before .before .before .before .before .before .before .before .before .before .pre .1 .4)); ready = (c .before .before .before .before .before .before .before .before .before .before .before .before .before .before .before .before .before .before .before .before .pre .1 .0); asked = (c .before .before .before .before .before .before .before .before .before .before .before .before .before .before .before .before .before .before .before .before .pre .1 .1); before = still-before (c .before .before .before .before .before .before .before .before .before .before .before .before .is-before .ensures) (c .before .before .before .before .before .before .before .before .before .before .before .if1 .left); variable = (c .before .before .before .before .variable .ensures .0); view = (c .view-of .ensures) }
 
 widen-from-loop-holds : (t : ℕ) → widen-from-lts.Need-loop-holds (widen-from-claims t) (widen-from-at t) widen-from.Post widen-from-Inv-loop widen-from-μ-loop
 widen-from-loop-holds t c = starts (entered t (c .before)) (c .new .result) (c .new .ensures .0)
 
 widen-from-turn-requires : (t : ℕ) → widen-from-lts.Need-turn-requires (widen-from-claims t) (widen-from-at t) widen-from.Post widen-from-Inv-loop widen-from-μ-loop
-widen-from-turn-requires t c κs = (omega (arith, ((c .loop-test .taken))), (c .before .loop .inv .most))
+widen-from-turn-requires t c κs = (omega (arith, (c .loop-test .taken)), (c .before .loop .inv .most))
 
 widen-from-cut-of-requires : (t : ℕ) → widen-from-lts.Need-cut-of-requires (widen-from-claims t) (widen-from-at t) widen-from.Post widen-from-Inv-loop widen-from-μ-loop
 widen-from-cut-of-requires t c κs = (in-cuts (entered t (c .before .before .before .before .before)) (c .before .before .before .loop .inv), in-view (entered t (c .before .before .before .before .before)) (c .before .before .before .loop .inv) (c .before .before .loop-test .taken) (c .before .turn .ensures))
@@ -99,7 +100,7 @@ widen-from-child-requires : (t : ℕ) → widen-from-lts.Need-child-requires (wi
 widen-from-child-requires t c κs = (in-children (entered t (c .before .before .before .before .before .before .before)) (c .before .before .before .before .before .loop .inv), in-view (entered t (c .before .before .before .before .before .before .before)) (c .before .before .before .before .before .loop .inv) (c .before .before .before .before .loop-test .taken) (c .before .before .before .turn .ensures))
 
 widen-from-sub-widen-from : (t : ℕ) → widen-from-lts.Need-sub-widen-from (widen-from-claims t) (widen-from-at t) widen-from.Post widen-from-Inv-loop widen-from-μ-loop
-widen-from-sub-widen-from t c = call-left ((c .before .before .before .before .before .before .before .before .before .before .before .before .before .before .before .before .before .before .before .before .before .before .before .before .before .before .before .before .before .before .before .before .before .pre .1 .0)) ((c .before .before .before .before .before .before .before .before .before .before .before .before .before .before .before .before .before .before .before .before .before .before .before .before .before .before .before .before .before .before .before .before .before .pre .1 .1))
+widen-from-sub-widen-from t c = call-left (c .before .before .before .before .before .before .before .before .before .before .before .before .before .before .before .before .before .before .before .before .before .before .before .before .before .before .before .before .before .before .before .before .before .pre .1 .0) (c .before .before .before .before .before .before .before .before .before .before .before .before .before .before .before .before .before .before .before .before .before .before .before .before .before .before .before .before .before .before .before .before .before .pre .1 .1)
 
 widen-from-widen-from-requires : (t : ℕ) → widen-from-lts.Need-widen-from-requires (widen-from-claims t) (widen-from-at t) widen-from.Post widen-from-Inv-loop widen-from-μ-loop
 widen-from-widen-from-requires t c κs = (omega (arith, c .before .before .before .before .before .before .before .before .before .before .before .before .before .before .before .before .before .before .before .before .before .before .before .before .before .before .before .before .before .before .before .before .before .pre .0, call-left (c .before .before .before .before .before .before .before .before .before .before .before .before .before .before .before .before .before .before .before .before .before .before .before .before .before .before .before .before .before .before .before .before .before .pre .1 .0) (c .before .before .before .before .before .before .before .before .before .before .before .before .before .before .before .before .before .before .before .before .before .before .before .before .before .before .before .before .before .before .before .before .before .pre .1 .1)), ((c .before .before .before .before .before .before .before .before .before .before .before .loop .inv .ready), below-asked (entered t (c .before .before .before .before .before .before .before .before .before .before .before .before .before)) (c .before .before .before .before .before .before .before .before .before .before .before .loop .inv) (c .before .before .before .before .before .before .before .before .before .before .loop-test .taken) (c .before .before .before .before .before .before .before .before .before .turn .ensures) (c .before .before .before .before .before .child .ensures), c .before .before .before .before .before .before .before .before .before .before .before .before .before .before .before .before .before .before .before .before .before .before .before .before .before .before .before .before .before .before .before .before .before .pre .1 .2, c .before .before .before .before .before .before .before .before .before .before .before .before .before .before .before .before .before .before .before .before .before .before .before .before .before .before .before .before .before .before .before .before .before .pre .1 .3, c .before .before .before .before .before .before .before .before .before .before .before .before .before .before .before .before .before .before .before .before .before .before .before .before .before .before .before .before .before .before .before .before .before .pre .1 .4))
@@ -111,7 +112,7 @@ widen-from-element-set-from-out : (t : ℕ) → widen-from-lts.Need-element-set-
 widen-from-element-set-from-out t c = omega (arith, in-slots (entered t (c .before .before .before .before .before .before .before .before .before .before .before .before .before .before .before .before .before .before .before .before .before .before .before .before)) (c .before .before .before .before .before .before .before .before .before .before .before .before .before .before .before .before .before .before .before .before .before .before .loop .inv) (c .before .before .before .before .before .before .before .before .before .before .before .before .before .before .before .before .before .before .before .before .before .loop-test .taken) (c .before .before .before .before .before .before .before .before .before .before .before .before .before .before .before .before .before .before .before .before .turn .ensures), c .before .before .before .before .before .before .before .before .before .before .before .before .before .before .before .before .before .before .before .before .before .before .loop .inv .size)
 
 widen-from-left-after-requires : (t : ℕ) → widen-from-lts.Need-left-after-requires (widen-from-claims t) (widen-from-at t) widen-from.Post widen-from-Inv-loop widen-from-μ-loop
-widen-from-left-after-requires t c κs = omega (arith, ((c .before .before .before .before .before .before .before .before .before .before .before .before .before .before .before .before .before .before .before .before .before .before .loop-test .taken)))
+widen-from-left-after-requires t c κs = omega (arith, (c .before .before .before .before .before .before .before .before .before .before .before .before .before .before .before .before .before .before .before .before .before .before .loop-test .taken))
 
 widen-from-loop-less : (t : ℕ) → widen-from-lts.Need-loop-less (widen-from-claims t) (widen-from-at t) widen-from.Post widen-from-Inv-loop widen-from-μ-loop
 widen-from-loop-less t c = loop-falls (entered t (c .before .before .before .before .before .before .before .before .before .before .before .before .before .before .before .before .before .before .before .before .before .before .before .before .before .before)) (c .before .before .before .before .before .before .before .before .before .before .before .before .before .before .before .before .before .before .before .before .before .before .before .before .loop .inv) (c .before .before .before .before .before .before .before .before .before .before .before .before .before .before .before .before .before .before .before .before .before .before .before .loop-test .taken) (c .before .before .before .before .before .before .before .before .before .before .before .before .before .before .before .before .before .before .before .before .before .before .turn .ensures) (c .before .before .before .before .before .before .before .before .before .before .before .before .before .before .before .before .before .before .child .ensures) (c .before .before .before .before .before .before .before .before .before .before .before .before .before .before .before .before .before .before .before .before .cut-of .ensures) (c .before .before .before .before .before .before .before .before .before .before .before .before .widen-from .ensures) (c .left-after .ensures)

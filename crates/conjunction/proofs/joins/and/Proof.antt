@@ -6,13 +6,13 @@ use Rattle.conjunction.proofs.joins.and.Statement.{statement}
 use Rattle.conjunction.proofs.joins.and.Tie as tie
 
 conjoin-requires : tie.Need-conjoin-requires
-conjoin-requires c κs = (ready-zeroed ((c .before .before .before .before .before .before .before .before .before .before .before .before .before .pre .0)) ((c .before .before .before .before .before .before .before .before .before .before .before .before .before .args .memo .now)) ((c .before .before .before .before .before .before .before .before .before .before .before .before .before .pre .1)) ((c .before .before .before .before .before .before .before .zero-words .ensures)), asked-all ((c .before .before .before .before .before .before .before .before .before .before .before .before .before .pre .2)), asked-all ((c .before .before .before .before .before .before .before .before .before .before .before .before .before .pre .3)))
+conjoin-requires c κs = (ready-zeroed (c .before .before .before .before .before .before .before .before .before .before .before .before .before .pre .0) (c .before .before .before .before .before .before .before .before .before .before .before .before .before .args .memo .now) (c .before .before .before .before .before .before .before .before .before .before .before .before .before .pre .1) (c .before .before .before .before .before .before .before .zero-words .ensures), asked-all (c .before .before .before .before .before .before .before .before .before .before .before .before .before .pre .2), asked-all (c .before .before .before .before .before .before .before .before .before .before .before .before .before .pre .3))
 
 same-length-5 : tie.Need-same-length-5
-same-length-5 c = worked-long ((c .before .before .before .before .before .before .before .before .before .before .before .before .before .before .before .before .before .before .before .before .before .before .before .before .before .before .before .before .before .before .before .before .before .before .before .before .before .before .pre .0)) ((c .before .before .before .before .before .before .before .before .before .before .before .before .before .before .before .before .before .before .before .before .before .before .before .before .before .before .before .before .before .before .before .before .before .before .before .before .before .before .args .memo .now)) ((c .before .before .before .before .before .before .before .before .before .before .before .before .before .before .before .before .before .before .before .before .before .before .before .before .before .before .before .before .before .before .before .before .zero-words .ensures)) ((c .before .before .before .before .before .before .before .before .before .before .before .before .before .before .before .before .before .before .before .before .before .before .before .before .conjoin .ensures)) ((c .before .before .before .before .before .before .before .before .before .finish .ensures))
+same-length-5 c = worked-long (c .before .before .before .before .before .before .before .before .before .before .before .before .before .before .before .before .before .before .before .before .before .before .before .before .before .before .before .before .before .before .before .before .before .before .before .before .before .before .pre .0) (c .before .before .before .before .before .before .before .before .before .before .before .before .before .before .before .before .before .before .before .before .before .before .before .before .before .before .before .before .before .before .before .before .before .before .before .before .before .before .args .memo .now) (c .before .before .before .before .before .before .before .before .before .before .before .before .before .before .before .before .before .before .before .before .before .before .before .before .before .before .before .before .before .before .before .before .zero-words .ensures) (c .before .before .before .before .before .before .before .before .before .before .before .before .before .before .before .before .before .before .before .before .before .before .before .before .conjoin .ensures) (c .before .before .before .before .before .before .before .before .before .finish .ensures)
 
 returns : tie.Need-returns
-returns c = worked ((c .before .before .before .before .before .before .before .before .before .before .before .before .before .before .before .before .before .before .before .before .before .before .before .before .before .before .before .before .before .before .before .before .before .before .before .before .before .before .pre .0)) ((c .before .before .before .before .before .before .before .before .before .before .before .before .before .before .before .before .before .before .before .before .before .before .before .before .before .before .before .before .before .before .before .before .before .before .before .before .before .before .args .memo .now)) ((c .before .before .before .before .before .before .before .before .before .before .before .before .before .before .before .before .before .before .before .before .before .before .before .before .before .before .before .before .before .before .before .before .zero-words .ensures)) ((c .before .before .before .before .before .before .before .before .before .before .before .before .before .before .before .before .before .before .before .before .before .before .before .before .conjoin .ensures)) ((c .before .before .before .before .before .before .before .before .before .finish .ensures))
+returns c = worked (c .before .before .before .before .before .before .before .before .before .before .before .before .before .before .before .before .before .before .before .before .before .before .before .before .before .before .before .before .before .before .before .before .before .before .before .before .before .before .pre .0) (c .before .before .before .before .before .before .before .before .before .before .before .before .before .before .before .before .before .before .before .before .before .before .before .before .before .before .before .before .before .before .before .before .before .before .before .before .before .before .args .memo .now) (c .before .before .before .before .before .before .before .before .before .before .before .before .before .before .before .before .before .before .before .before .before .before .before .before .before .before .before .before .before .before .before .before .zero-words .ensures) (c .before .before .before .before .before .before .before .before .before .before .before .before .before .before .before .before .before .before .before .before .before .before .before .before .conjoin .ensures) (c .before .before .before .before .before .before .before .before .before .finish .ensures)
 
 pub and-spec : {M : Type 1} → statement M
 and-spec =

@@ -7,13 +7,13 @@ use Rattle.kernel.proofs.joins_calls.and.Statement.{statement}
 use Rattle.kernel.proofs.joins_calls.and.Tie as tie
 
 returns : tie.Need-returns
-returns c = ids-refused _ _ _ _ _ _ _ _ _ _ (λ u k. k) (λ u k. k) asks-none ((c .before .before .before .admit-ids .ensures)) ((c .before .if1 .taken)) ((c .refused .ensures))
+returns c = ids-refused _ _ _ _ _ _ _ _ _ _ (λ u k. k) (λ u k. k) asks-none (c .before .before .before .admit-ids .ensures) (c .before .if1 .taken) (c .refused .ensures)
 
 and-requires : tie.Need-and-requires
-and-requires c κs = let l = ids-lent asks-none ((c .before .before .before .before .before .before .before .before .admit-ids .ensures)) ((c .before .before .before .before .before .before .if1 .left)) in (l .0, l .1, l .2 .0, l .2 .1)
+and-requires c κs = let l = ids-lent asks-none (c .before .before .before .before .before .before .before .before .admit-ids .ensures) (c .before .before .before .before .before .before .if1 .left) in (l .0, l .1, l .2 .0, l .2 .1)
 
 returns-2 : tie.Need-returns-2
-returns-2 c = ids-answered _ _ _ _ _ _ _ _ _ _ (λ u k. k) (λ u k. k) asks-none ((c .before .before .before .before .before .before .before .before .before .before .before .before .before .before .before .before .before .before .before .admit-ids .ensures)) ((c .before .before .before .before .before .before .before .before .before .before .before .before .before .before .before .before .before .if1 .left)) ((c .before .before .before .before .before .before .before .before .before .before .and .ensures)) refl ((c .answer-of .ensures))
+returns-2 c = ids-answered _ _ _ _ _ _ _ _ _ _ (λ u k. k) (λ u k. k) asks-none (c .before .before .before .before .before .before .before .before .before .before .before .before .before .before .before .before .before .before .before .admit-ids .ensures) (c .before .before .before .before .before .before .before .before .before .before .before .before .before .before .before .before .before .if1 .left) (c .before .before .before .before .before .before .before .before .before .before .and .ensures) refl (c .answer-of .ensures)
 
 pub and-spec : {M : Type 1} → statement M
 and-spec =

@@ -5,10 +5,10 @@ use Rattle.making.proofs.nodes.create_pair.Statement.{statement}
 use Rattle.making.proofs.nodes.create_pair.Tie as tie
 
 create-node-requires : tie.Need-create-node-requires
-create-node-requires c κs = ((c .before .before .before .before .before .before .before .before .pre .0), pair-buildable _ ((c .before .before .before .before .before .before .before .before .pre .1)) ((c .before .before .before .before .before .before .before .before .pre .2)) ((c .before .before .before .before .before .before .before .before .args .high)) ((c .before .before .before .before .before .before .before .before .args .low)) ((c .before .before .before .before .before .before .before .before .pre .3)) ((c .before .before .before .before .before .before .before .before .pre .4)) ((c .pair-of .ensures)))
+create-node-requires c κs = ((c .before .before .before .before .before .before .before .before .pre .0), pair-buildable _ (c .before .before .before .before .before .before .before .before .pre .1) (c .before .before .before .before .before .before .before .before .pre .2) (c .before .before .before .before .before .before .before .before .args .high) (c .before .before .before .before .before .before .before .before .args .low) (c .before .before .before .before .before .before .before .before .pre .3) (c .before .before .before .before .before .before .before .before .pre .4) (c .pair-of .ensures))
 
 returns : tie.Need-returns
-returns c = rw ((c .before .before .before .before .before .before .before .before .pair-of .ensures .1)) at ((c .before .before .before .before .before .before .before .create-node .ensures))
+returns c = rw (c .before .before .before .before .before .before .before .before .pair-of .ensures .1) at (c .before .before .before .before .before .before .before .create-node .ensures)
 
 pub create-pair-spec : {M : Type 1} → statement M
 create-pair-spec =

@@ -46,7 +46,7 @@ loop-less : tie.Need-loop-less Inv-loop μ-loop
 loop-less c = omega arith
 
 loop-again : tie.Need-loop-again Inv-loop μ-loop
-loop-again c = (omega arith, simp length-set ((c .before .before .before .before .loop .inv .1)), simp length-set ((c .before .before .before .before .loop .inv .2)), written-next ((c .before .before .before .before .loop .inv .3)) (omega (arith, (c .before .before .before .before .before .before .pre))) (omega (arith, (c .before .before .before .before .before .before .pre))) _ _ ((c .before .negate .ensures)) (toZ-ofZ _ _ (record { sfits = (c .stored-cut .ok) }) ∙ (c .stored-cut .ensures)))
+loop-again c = (omega arith, simp length-set (c .before .before .before .before .loop .inv .1), simp length-set (c .before .before .before .before .loop .inv .2), written-next (c .before .before .before .before .loop .inv .3) (omega (arith, (c .before .before .before .before .before .before .pre))) (omega (arith, (c .before .before .before .before .before .before .pre))) _ _ (c .before .negate .ensures) (toZ-ofZ _ _ (record { sfits = (c .stored-cut .ok) }) ∙ (c .stored-cut .ensures)))
 
 same-length : tie.Need-same-length Inv-loop μ-loop
 same-length c = (c .before .loop .inv .1)
@@ -55,7 +55,7 @@ same-length-2 : tie.Need-same-length-2 Inv-loop μ-loop
 same-length-2 c = (c .before .loop .inv .2)
 
 returns : tie.Need-returns Inv-loop μ-loop
-returns c = let e : (c .before .loop .j) ≡ (c .before .before .before .args .t6 .len) = omega arith in rw e at ((c .before .loop .inv .3))
+returns c = let e : (c .before .loop .j) ≡ (c .before .before .before .args .t6 .len) = omega arith in rw e at (c .before .loop .inv .3)
 
 pub put-edges-spec : {M : Type 1} → statement M
 put-edges-spec =

@@ -7,7 +7,7 @@ use borrow.Author.Needs.{needs}
 use denote.Ref.{now}
 use Rattle.ids.specs.Id.{sign, under}
 use Rattle.table.specs.Deciding.{holds, fails}
-use Rattle.table.specs.Layout.{kidAt, cutAt, level}
+use Rattle.table.specs.Layout.{kidAt, cutAt, cutPosition}
 use Rattle.table.proofs.Laws as laws
 use Rattle.making.specs.Building.{childIn, keyIn}
 use Rattle.making.proofs.Hashing.{key-is}
@@ -16,7 +16,7 @@ use Rattle.making.proofs.nodes.same_node.Statement.{statement}
 use Rattle.making.proofs.nodes.same_node.Tie as tie
 
 abbrev Inv-loop : tie.InvT-loop
-Inv-loop nodes children cuts n v lead es count first j₀ j = (j ≤ count) × ((k : ℕ) → k < j → kidAt children (first + k) ≡ under (sign (lead .0)) (childIn es k)) × ((k : ℕ) → k < j → level (cutAt cuts (first + k)) ≡ keyIn v es k)
+Inv-loop nodes children cuts n v lead es count first j₀ j = (j ≤ count) × ((k : ℕ) → k < j → kidAt children (first + k) ≡ under (sign (lead .0)) (childIn es k)) × ((k : ℕ) → k < j → cutPosition (cutAt cuts (first + k)) ≡ keyIn v es k)
 
 abbrev μ-loop : tie.MeasureT-loop
 μ-loop nodes children cuts n v lead es count first j₀ j = count - j
@@ -48,20 +48,20 @@ child-at-requires c κs = omega (arith, (c .before .before .before .before .firs
 returns-3 : tie.Need-returns-3 Inv-loop μ-loop
 returns-3 c = fails (λ p. (c .if3 .taken) ((c .before .before .child-at .ensures .0) ∙ kid-at (now (c .before .before .before .before .before .before .before .before .before .before .before .before .before .before .args .children)) (c .before .before .before .before .before .before .loop .j) (c .before .before .before .before .before .before .before .first-of .ensures .0) ∙ p .child (c .before .before .before .before .before .before .loop .j) (c .before .before .before .before .before .loop-test .taken) ∙ sym ((c .before .wide .ensures .0) ∙ (c .before .before .before .negate .ensures))))
 
-add-level-at : tie.Need-add-level-at Inv-loop μ-loop
-add-level-at c = omega (arith, (c .before .before .before .before .before .before .before .first-of .ensures .1), (c .before .before .before .before .before .before .before .before .before .before .before .before .before .before .pre .3 .most))
+add-cut-position-at : tie.Need-add-cut-position-at Inv-loop μ-loop
+add-cut-position-at c = omega (arith, (c .before .before .before .before .before .before .before .first-of .ensures .1), (c .before .before .before .before .before .before .before .before .before .before .before .before .before .before .pre .3 .most))
 
-level-at-requires : tie.Need-level-at-requires Inv-loop μ-loop
-level-at-requires c κs = omega (arith, (c .before .before .before .before .before .before .before .first-of .ensures .0), (c .before .before .before .before .before .before .before .before .before .count-of .ensures .0), (c .before .before .before .before .before .before .before .before .if2 .left), (c .before .before .before .before .before .before .before .before .before .before .before .before .before .before .pre .1), (c .before .before .before .before .before .before .before .before .before .before .before .before .before .before .pre .2 .inside))
+cut-position-at-requires : tie.Need-cut-position-at-requires Inv-loop μ-loop
+cut-position-at-requires c κs = omega (arith, (c .before .before .before .before .before .before .before .first-of .ensures .0), (c .before .before .before .before .before .before .before .before .before .count-of .ensures .0), (c .before .before .before .before .before .before .before .before .if2 .left), (c .before .before .before .before .before .before .before .before .before .before .before .before .before .before .pre .1), (c .before .before .before .before .before .before .before .before .before .before .before .before .before .before .pre .2 .inside))
 
 key-of-requires : tie.Need-key-of-requires Inv-loop μ-loop
 key-of-requires c κs = omega (arith, (c .before .before .before .before .before .before .before .before .before .before .before .before .before .before .before .pre .3 .most))
 
 returns-4 : tie.Need-returns-4 Inv-loop μ-loop
-returns-4 c = fails (λ p. (c .if4 .taken) ((c .before .before .level-at .ensures .0) ∙ cut-at (now (c .before .before .before .before .before .before .before .before .before .before .before .before .before .before .before .before .before .args .cuts)) (c .before .before .before .before .before .before .before .before .before .loop .j) (c .before .before .before .before .before .before .before .before .before .before .first-of .ensures .0) ∙ p .cut (c .before .before .before .before .before .before .before .before .before .loop .j) (c .before .before .before .before .before .before .before .before .loop-test .taken) ∙ sym ((c .before .key-of .ensures) ∙ key-is (c .before .before .before .before .before .before .before .before .before .before .before .before .before .before .before .before .before .args .v) (c .before .before .before .before .before .before .before .before .before .loop .j) (c .before .before .before .before .before .before .before .before .before .before .before .before .before .before .before .before .before .args .t7))))
+returns-4 c = fails (λ p. (c .if4 .taken) ((c .before .before .cut-position-at .ensures .0) ∙ cut-at (now (c .before .before .before .before .before .before .before .before .before .before .before .before .before .before .before .before .before .args .cuts)) (c .before .before .before .before .before .before .before .before .before .loop .j) (c .before .before .before .before .before .before .before .before .before .before .first-of .ensures .0) ∙ p .cut (c .before .before .before .before .before .before .before .before .before .loop .j) (c .before .before .before .before .before .before .before .before .loop-test .taken) ∙ sym ((c .before .key-of .ensures) ∙ key-is (c .before .before .before .before .before .before .before .before .before .before .before .before .before .before .before .before .before .args .v) (c .before .before .before .before .before .before .before .before .before .loop .j) (c .before .before .before .before .before .before .before .before .before .before .before .before .before .before .before .before .before .args .t7))))
 
 loop-again : tie.Need-loop-again Inv-loop μ-loop
-loop-again c = (omega arith, λ k l. ⊎-elim (λ q. rw q (sym (c .before .before .before .before .before .child-at .ensures .0) ∙ (c .before .before .before .if3 .left) ∙ (c .before .before .before .before .wide .ensures .0) ∙ (c .before .before .before .before .before .before .negate .ensures))) (λ h. (c .before .before .before .before .before .before .before .before .before .loop .inv .1) k h) (laws.last k (c .before .before .before .before .before .before .before .before .before .loop .j) l), λ k l. ⊎-elim (λ q. rw q (sym (c .before .before .level-at .ensures .0) ∙ (c .if4 .left) ∙ (c .before .key-of .ensures) ∙ key-is (c .before .before .before .before .before .before .before .before .before .before .before .before .before .before .before .before .before .args .v) (c .before .before .before .before .before .before .before .before .before .loop .j) (c .before .before .before .before .before .before .before .before .before .before .before .before .before .before .before .before .before .args .t7))) (λ h. (c .before .before .before .before .before .before .before .before .before .loop .inv .2) k h) (laws.last k (c .before .before .before .before .before .before .before .before .before .loop .j) l))
+loop-again c = (omega arith, λ k l. ⊎-elim (λ q. rw q (sym (c .before .before .before .before .before .child-at .ensures .0) ∙ (c .before .before .before .if3 .left) ∙ (c .before .before .before .before .wide .ensures .0) ∙ (c .before .before .before .before .before .before .negate .ensures))) (λ h. (c .before .before .before .before .before .before .before .before .before .loop .inv .1) k h) (laws.last k (c .before .before .before .before .before .before .before .before .before .loop .j) l), λ k l. ⊎-elim (λ q. rw q (sym (c .before .before .cut-position-at .ensures .0) ∙ (c .if4 .left) ∙ (c .before .key-of .ensures) ∙ key-is (c .before .before .before .before .before .before .before .before .before .before .before .before .before .before .before .before .before .args .v) (c .before .before .before .before .before .before .before .before .before .loop .j) (c .before .before .before .before .before .before .before .before .before .before .before .before .before .before .before .before .before .args .t7))) (λ h. (c .before .before .before .before .before .before .before .before .before .loop .inv .2) k h) (laws.last k (c .before .before .before .before .before .before .before .before .before .loop .j) l))
 
 returns-5 : tie.Need-returns-5 Inv-loop μ-loop
 returns-5 c = holds (record { variable = sym (c .before .before .before .before .before .before .var-of .ensures .0) ∙ (c .before .before .before .before .before .if1 .left); count = sym (c .before .before .before .before .count-of .ensures .0) ∙ (c .before .before .before .if2 .left); child = λ k l. sym (kid-at (now (c .before .before .before .before .before .before .before .before .before .args .children)) k (c .before .before .first-of .ensures .0)) ∙ (c .before .loop .inv .1) k (omega arith); cut = λ k l. sym (cut-at (now (c .before .before .before .before .before .before .before .before .before .args .cuts)) k (c .before .before .first-of .ensures .0)) ∙ (c .before .loop .inv .2) k (omega arith) })
@@ -85,8 +85,8 @@ same-node-spec =
     child-at-requires
     (λ c κs. search needs)
     returns-3
-    add-level-at
-    level-at-requires
+    add-cut-position-at
+    cut-position-at-requires
     key-of-requires
     returns-4
     (λ c. search needs)

@@ -38,7 +38,7 @@ loop-less : tie.Need-loop-less Inv-loop μ-loop
 loop-less c = omega arith
 
 loop-again : tie.Need-loop-again Inv-loop μ-loop
-loop-again c = (omega arith, simp length-set ((c .before .loop .inv .1)), simp length-set ((c .before .loop .inv .2)), written-next ((c .before .loop .inv .3)) (omega (arith, (c .before .before .pre))) (omega (arith, (c .before .before .pre))) _ _ refl refl)
+loop-again c = (omega arith, simp length-set (c .before .loop .inv .1), simp length-set (c .before .loop .inv .2), written-next (c .before .loop .inv .3) (omega (arith, (c .before .before .pre))) (omega (arith, (c .before .before .pre))) _ _ refl refl)
 
 same-length : tie.Need-same-length Inv-loop μ-loop
 same-length c = (c .before .loop .inv .1)
@@ -47,7 +47,7 @@ same-length-2 : tie.Need-same-length-2 Inv-loop μ-loop
 same-length-2 c = (c .before .loop .inv .2)
 
 returns : tie.Need-returns Inv-loop μ-loop
-returns c = let e : (c .before .loop .j) ≡ (c .before .before .args .count) = omega arith in rw e at ((c .before .loop .inv .3))
+returns c = let e : (c .before .loop .j) ≡ (c .before .before .args .count) = omega arith in rw e at (c .before .loop .inv .3)
 
 pub blank-edges-spec : {M : Type 1} → statement M
 blank-edges-spec =

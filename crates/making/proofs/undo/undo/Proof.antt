@@ -7,9 +7,10 @@ use Rattle.making.specs.Outcome.{TakenBack}
 use Rattle.making.proofs.Kept.{stays-here, taken-on, taken-to}
 use Rattle.making.proofs.undo.undo.Statement.{statement}
 use Rattle.making.proofs.undo.undo.Tie as tie
+use Rattle.table.specs.Layout.{store}
 
 abbrev Inv-loop : tie.InvT-loop
-Inv-loop nodes₀ children₀ cuts₀ index₀ used now₀ nodes children cuts index now = (length nodes ≡ length nodes₀) × (length children ≡ length children₀) × (length cuts ≡ length cuts₀) × (length index ≡ length index₀) × (used ≤ now .used) × TakenBack (now .used) now₀ nodes₀ children₀ cuts₀ now nodes children cuts index
+Inv-loop nodes₀ children₀ cuts₀ index₀ used now₀ nodes children cuts index now = (length nodes ≡ length nodes₀) × (length children ≡ length children₀) × (length cuts ≡ length cuts₀) × (length index ≡ length index₀) × (used ≤ now .used) × TakenBack (now .used) now₀ (store nodes₀ children₀ cuts₀) now (store nodes children cuts) index
 
 abbrev μ-loop : tie.MeasureT-loop
 μ-loop nodes₀ children₀ cuts₀ index₀ used now₀ nodes children cuts index now = now .used
@@ -24,7 +25,7 @@ loop-less : tie.Need-loop-less Inv-loop μ-loop
 loop-less c = omega (arith, (c .before .before .before .before .before .before .before .pop .ensures .used-is))
 
 loop-again : tie.Need-loop-again Inv-loop μ-loop
-loop-again c = let p = (c .before .before .before .before .before .before .before .pop .ensures) in let a = p .lent .allowed in let b = (c .before .before .before .before .before .before .before .before .before .before .before .before .before .before .before .before .before .before .pre .0 .allowed) in (sym (p .stays .long) ∙ (c .before .before .before .before .before .before .before .before .before .before .before .before .before .before .loop .inv .0), sym (p .stays .wide) ∙ (c .before .before .before .before .before .before .before .before .before .before .before .before .before .before .loop .inv .1), omega (arith, a .cut-each, b .cut-each, p .stays .wide, (c .before .before .before .before .before .before .before .before .before .before .before .before .before .before .loop .inv .1)), omega (arith, a .indexed, b .indexed, p .stays .long, (c .before .before .before .before .before .before .before .before .before .before .before .before .before .before .loop .inv .0)), omega (arith, p .used-is), taken-to (taken-on ((c .before .before .before .before .before .before .before .before .before .before .before .before .before .before .loop .inv .5)) p) refl)
+loop-again c = let p = (c .before .before .before .before .before .before .before .pop .ensures) in let a = p .lent .allowed in let b = (c .before .before .before .before .before .before .before .before .before .before .before .before .before .before .before .before .before .before .pre .0 .allowed) in (sym (p .stays .long) ∙ (c .before .before .before .before .before .before .before .before .before .before .before .before .before .before .loop .inv .0), sym (p .stays .wide) ∙ (c .before .before .before .before .before .before .before .before .before .before .before .before .before .before .loop .inv .1), omega (arith, a .cut-each, b .cut-each, p .stays .wide, (c .before .before .before .before .before .before .before .before .before .before .before .before .before .before .loop .inv .1)), omega (arith, a .indexed, b .indexed, p .stays .long, (c .before .before .before .before .before .before .before .before .before .before .before .before .before .before .loop .inv .0)), omega (arith, p .used-is), taken-to (taken-on (c .before .before .before .before .before .before .before .before .before .before .before .before .before .before .loop .inv .5) p) refl)
 
 same-length : tie.Need-same-length Inv-loop μ-loop
 same-length c = (c .before .before .loop .inv .0)
@@ -39,7 +40,7 @@ same-length-4 : tie.Need-same-length-4 Inv-loop μ-loop
 same-length-4 c = (c .before .before .loop .inv .3)
 
 returns : tie.Need-returns Inv-loop μ-loop
-returns c = taken-to ((c .before .before .loop .inv .5)) (omega (arith, (c .before .before .loop .inv .4)))
+returns c = taken-to (c .before .before .loop .inv .5) (omega (arith, (c .before .before .loop .inv .4)))
 
 pub undo-spec : {M : Type 1} → statement M
 undo-spec =

@@ -22,13 +22,13 @@ loop-less : tie.Need-loop-less Inv-loop μ-loop
 loop-less c = simp length-set (omega arith)
 
 loop-again : tie.Need-loop-again Inv-loop μ-loop
-loop-again c = (simp length-set (omega arith), simp length-set ((c .before .loop .inv .1)), filled-next (pos 0) ((c .before .loop .cuts)) ((c .before .loop .i)) (omega arith) ((c .before .loop .inv .2)))
+loop-again c = (simp length-set (omega arith), simp length-set (c .before .loop .inv .1), filled-next (pos 0) (c .before .loop .cuts) (c .before .loop .i) (omega arith) (c .before .loop .inv .2))
 
 same-length : tie.Need-same-length Inv-loop μ-loop
 same-length c = (c .before .loop .inv .1)
 
 returns : tie.Need-returns Inv-loop μ-loop
-returns c = filled-all (pos 0) ((c .before .loop .cuts)) _ ((c .before .loop .inv .1)) (λ j l. (c .before .loop .inv .2) j (omega (arith, (c .before .loop .inv .1))))
+returns c = filled-all (pos 0) (c .before .loop .cuts) _ (c .before .loop .inv .1) (λ j l. (c .before .loop .inv .2) j (omega (arith, (c .before .loop .inv .1))))
 
 pub zero-cuts-spec : {M : Type 1} → statement M
 zero-cuts-spec = tie.close (tie.spec Inv-loop μ-loop loop-holds (λ c. search needs) (λ c. search needs) (λ c. search needs) loop-less loop-again same-length returns)

@@ -6,10 +6,10 @@ use Rattle.table.proofs.index.scaled.Statement.{statement}
 use Rattle.table.proofs.index.scaled.Tie as tie
 
 mul-result : tie.Need-mul-result
-mul-result c = omega (arith, laws.product-fits ((c .args .h)) ((c .args .rooms)) ((c .pre .0)) ((c .pre .2)))
+mul-result c = omega (arith, laws.product-fits (c .args .h) (c .args .rooms) (c .pre .0) (c .pre .2))
 
 returns : tie.Need-returns
-returns c = (refl, laws.scaled-lt ((c .args .h)) ((c .args .rooms)) ((c .pre .0)) ((c .pre .1)))
+returns c = (refl, laws.scaled-lt (c .args .h) (c .args .rooms) (c .pre .0) (c .pre .1))
 
 pub scaled-spec : {M : Type 1} → statement M
 scaled-spec = tie.close (tie.spec mul-result returns)

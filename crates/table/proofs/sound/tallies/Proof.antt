@@ -19,23 +19,23 @@ abbrev μ-loop : tie.MeasureT-loop
 μ-loop index n u full₀ i₀ full i = n - i
 
 loop-holds : tie.Need-loop-holds Inv-loop μ-loop
-loop-holds c = (omega arith, omega arith, sym (laws.tally-none (λ (k : ℕ). getD (now ((c .before .args .index))) k 0)), λ k l. absurd (omega arith))
+loop-holds c = (omega arith, omega arith, sym (laws.tally-none (λ (k : ℕ). getD (now (c .before .args .index)) k 0)), λ k l. absurd (omega arith))
 
 returns : tie.Need-returns Inv-loop μ-loop
-returns c = fails (λ p. omega (arith, p .small ((c .before .before .before .loop .i)) ((c .before .before .loop-test .taken)), (c .before .word .ensures .0)))
+returns c = fails (λ p. omega (arith, p .small (c .before .before .before .loop .i) (c .before .before .loop-test .taken), (c .before .word .ensures .0)))
 
 add-full : tie.Need-add-full Inv-loop μ-loop
 add-full c = omega (arith, (c .one-for .ensures .1))
 
 loop-again : tie.Need-loop-again Inv-loop μ-loop
-loop-again c = let w = (c .before .before .word .ensures .0) in let o = (c .one-for .ensures .0) in let g = ap some w in let t = laws.tally-next (λ (k : ℕ). getD (now ((c .before .before .before .before .before .before .args .index))) k 0) ((c .before .before .before .before .loop .i)) in
-    (omega arith, omega (arith, (c .one-for .ensures .1)), omega (arith, (c .before .before .before .before .loop .inv .2)), λ k l. ⊎-elim (λ q. rw q (omega arith)) (λ h. (c .before .before .before .before .loop .inv .3) k h) (laws.last k ((c .before .before .before .before .loop .i)) l))
+loop-again c = let w = (c .before .before .word .ensures .0) in let o = (c .one-for .ensures .0) in let g = ap some w in let t = laws.tally-next (λ (k : ℕ). getD (now (c .before .before .before .before .before .before .args .index)) k 0) (c .before .before .before .before .loop .i) in
+    (omega arith, omega (arith, (c .one-for .ensures .1)), omega (arith, (c .before .before .before .before .loop .inv .2)), λ k l. ⊎-elim (λ q. rw q (omega arith)) (λ h. (c .before .before .before .before .loop .inv .3) k h) (laws.last k (c .before .before .before .before .loop .i) l))
 
 returns-2 : tie.Need-returns-2 Inv-loop μ-loop
-returns-2 c = let e : (c .before .before .loop .i) ≡ (c .before .before .before .before .args .n) = omega arith in holds (record { small = λ k l. (c .before .before .loop .inv .3) k (omega arith); full = sym (ap (tally (λ (k : ℕ). getD (now ((c .before .before .before .before .args .index))) k 0)) e) ∙ (sym ((c .before .before .loop .inv .2)) ∙ (c .if2 .taken)) })
+returns-2 c = let e : (c .before .before .loop .i) ≡ (c .before .before .before .before .args .n) = omega arith in holds (record { small = λ k l. (c .before .before .loop .inv .3) k (omega arith); full = sym (ap (tally (λ (k : ℕ). getD (now (c .before .before .before .before .args .index)) k 0)) e) ∙ (sym (c .before .before .loop .inv .2) ∙ (c .if2 .taken)) })
 
 returns-3 : tie.Need-returns-3 Inv-loop μ-loop
-returns-3 c = let e : (c .before .before .loop .i) ≡ (c .before .before .before .before .args .n) = omega arith in fails (λ p. (c .if2 .left) ((c .before .before .loop .inv .2) ∙ (ap (tally (λ (k : ℕ). getD (now ((c .before .before .before .before .args .index))) k 0)) e ∙ p .full)))
+returns-3 c = let e : (c .before .before .loop .i) ≡ (c .before .before .before .before .args .n) = omega arith in fails (λ p. (c .if2 .left) ((c .before .before .loop .inv .2) ∙ (ap (tally (λ (k : ℕ). getD (now (c .before .before .before .before .args .index)) k 0)) e ∙ p .full)))
 
 pub tallies-spec : {M : Type 1} → statement M
 tallies-spec =

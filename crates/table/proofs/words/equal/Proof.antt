@@ -8,7 +8,7 @@ use Rattle.table.proofs.words.equal.Statement.{statement}
 use Rattle.table.proofs.words.equal.Tie as tie
 
 returns : tie.Need-returns
-returns c = holds (laws.same-bits ((c .before .fits .y)) ((c .before .fits .z)) ((c .if1 .taken)))
+returns c = holds (laws.same-bits (c .before .fits .y) (c .before .fits .z) (c .if1 .taken))
 
 returns-2 : tie.Need-returns-2
 returns-2 c = fails (λ p. (c .if1 .left) (ap (ofZ w64) p))

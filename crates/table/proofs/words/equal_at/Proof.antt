@@ -10,7 +10,7 @@ use Rattle.table.proofs.words.equal_at.Statement.{statement}
 use Rattle.table.proofs.words.equal_at.Tie as tie
 
 returns : tie.Need-returns
-returns c = let d = toZ-ofZ w64 (cutAt (now ((c .before .before .before .args .cuts))) ((c .before .before .before .args .i))) (record { sfits = (c .before .before .y .given) }) in let e = toZ-ofZ w64 (cutAt (now ((c .before .before .before .args .cuts))) ((c .before .before .before .args .j))) (record { sfits = (c .before .z .given) }) in laws.to ((c .equal .ensures)) (λ p. sym d ∙ (p ∙ e)) (λ p. d ∙ (p ∙ sym e))
+returns c = let d = toZ-ofZ w64 (cutAt (now (c .before .before .before .args .cuts)) (c .before .before .before .args .i)) (record { sfits = (c .before .before .y .given) }) in let e = toZ-ofZ w64 (cutAt (now (c .before .before .before .args .cuts)) (c .before .before .before .args .j)) (record { sfits = (c .before .z .given) }) in laws.to (c .equal .ensures) (λ p. sym d ∙ (p ∙ e)) (λ p. d ∙ (p ∙ sym e))
 
 pub equal-at-spec : {M : Type 1} → statement M
 equal-at-spec =

@@ -10,7 +10,7 @@ returns : tie.Need-returns
 returns c = let e = (c .if1 .taken) in (ap some (sym e), omega arith)
 
 returns-2 : tie.Need-returns-2
-returns-2 c = (laws.some-one ((c .before .args .x)) ((c .if1 .left)), omega arith)
+returns-2 c = (laws.some-one (c .before .args .x) (c .if1 .left), omega arith)
 
 pub one-for-spec : {M : Type 1} → statement M
 one-for-spec = tie.close (tie.spec returns returns-2)

@@ -6,10 +6,10 @@ use Rattle.walks.proofs.finish.finish.Statement.{statement}
 use Rattle.walks.proofs.finish.finish.Tie as tie
 
 returns : tie.Need-returns
-returns c = record { kept = λ _. (refl, record { nodes-same = refl; children-same = refl; cuts-same = refl; index-same = refl }); taken = λ q. absurd (clash q ((c .if1 .taken))); zeroed = ((c .before .before .before .zero-words .ensures)) }
+returns c = record { kept = λ _. (refl, record { nodes-same = refl; children-same = refl; cuts-same = refl; index-same = refl }); taken = λ q. absurd (clash q (c .if1 .taken)); zeroed = (c .before .before .before .zero-words .ensures) }
 
 returns-2 : tie.Need-returns-2
-returns-2 c = record { kept = λ q. absurd (clash ((c .before .before .before .before .before .before .before .before .before .before .before .before .before .if1 .left)) q); taken = λ _. (refl, ((c .before .before .before .before .before .before .before .undo .ensures))); zeroed = ((c .before .before .before .before .before .before .before .before .before .before .before .before .before .before .before .before .zero-words .ensures)) }
+returns-2 c = record { kept = λ q. absurd (clash (c .before .before .before .before .before .before .before .before .before .before .before .before .before .if1 .left) q); taken = λ _. (refl, (c .before .before .before .before .before .before .before .undo .ensures)); zeroed = (c .before .before .before .before .before .before .before .before .before .before .before .before .before .before .before .before .zero-words .ensures) }
 
 pub finish-spec : {M : Type 1} → statement M
 finish-spec =

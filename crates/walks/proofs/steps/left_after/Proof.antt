@@ -7,10 +7,10 @@ use Rattle.walks.proofs.steps.left_after.Statement.{statement}
 use Rattle.walks.proofs.steps.left_after.Tie as tie
 
 returns : tie.Need-returns
-returns c = (λ q. absurd (clash (not-true _ ((c .if1 .taken))) q), λ q. refl)
+returns c = (λ q. absurd (clash (not-true _ (c .if1 .taken)) q), λ q. refl)
 
 returns-2 : tie.Need-returns-2
-returns-2 c = (λ q. refl, λ q. absurd (clash q (not-false _ ((c .if1 .left)))))
+returns-2 c = (λ q. refl, λ q. absurd (clash q (not-false _ (c .if1 .left))))
 
 pub left-after-spec : {M : Type 1} → statement M
 left-after-spec = tie.close (tie.spec returns (λ c. search needs) returns-2)
