@@ -31,7 +31,7 @@ use Rattle.merging.proofs.Bottoms.{create-last, narrowed-reduced, narrowed-crea
 use Rattle.merging.proofs.Fitting.{full-wide}
 use Rattle.table.proofs.Laws.{clash}
 use Rattle.making.specs.declared.edges.Edges as built
-use Rattle.making.specs.declared.nodes.Head.{Head}
+use Rattle.making.specs.declared.nodes.Used.{Used}
 use Rattle.making.specs.declared.nodes.Made.{Made}
 use Rattle.making.specs.Building.{Building, piecesOf}
 use Rattle.making.specs.Outcome.{Lent, Outcome, Buildable, tableOf}
@@ -66,27 +66,27 @@ narrowing-none r e l n = rw (lt-ltb (r .last) (r .first) l) (go e n)
 narrowing-some : (r : Range) (e : Pieces ℕ) → r .first ≤ r .last → narrowing r e ≡ narrowed (r .first) (r .last) e
 narrowing-some r e l = rw (le-ltb (r .last) (r .first) l)
 
-module _ {h : Head} {st : Store} {index : List ℕ} (l : Lent h st index) where
+module _ {h : Used} {st : Store} {index : List ℕ} (l : Lent h st index) where
   abbrev t : Table
   t = tableOf h st
 
   -- a lent table can be read
-  pub lent-read : Readable st (h .used)
-  lent-read = readable st index (h .used) (l .allowed) (l .sound)
+  pub lent-read : Readable st (h .nodes)
+  lent-read = readable st index (h .nodes) (l .allowed) (l .sound)
 
-  module _ {v id : ℕ} {a : View} (va : Views st (h .used) v id a) where
+  module _ {v id : ℕ} {a : View} (va : Views st (h .nodes) v id a) where
     -- a view of it lies within the words,
     pub view-inside : Inside (length (st .children)) a
-    view-inside = views-inside st (h .used) v id a lent-read va
+    view-inside = views-inside st (h .nodes) v id a lent-read va
 
     -- and has as many edges as the id at the variable
     as-many : count (edgesOf t v id) ≡ a .count
     as-many = sym (ap count (va .edges)) ∙ seen-count (st .children) (st .cuts) v a (va .inside .some)
 
-    module _ (k : KnownTo (h .used) id) (b : isBefore t v id ≡ false) (hv : v < firstBoolean) where
+    module _ (k : KnownTo (h .nodes) id) (b : isBefore t v id ≡ false) (hv : v < firstBoolean) where
       -- the id tests no earlier variable,
       at-or-after : Child t v id
-      at-or-after = (known-held st (h .used) id k, before-no t v id b)
+      at-or-after = (known-held st (h .nodes) id k, before-no t v id b)
 
       -- so that its edges here are as those of a node,
       kids-here : Kids t v id (edgesOf t v id)
@@ -164,9 +164,9 @@ module _ {h : Head} {st : Store} {index : List ℕ} (l : Lent h st index) where
           widen-settles good = ap (settle t v) (clips-here .built good .1)
 
           -- a 65th edge fits nowhere
-          pub widen-full : c .ok ≡ false → (id′ : NodeId) → Outcome h (create-node t v wide) (record { ok = false; id = id′; head = h }) st st index
+          pub widen-full : c .ok ≡ false → (id′ : NodeId) → Outcome h (create-node t v wide) (record { ok = false; id = id′; used = h }) st st index
           widen-full bad id′ = record { lent = l; stays = stays-here; table = λ q. absurd (clash refl q); id = λ q. absurd (clash refl q); full = λ q f. full-wide t v wide _ _ (clips-here .over bad) f }
 
 -- what was made under one name was made under another
-pub outcome-as : {h : Head} {want other : Table × ℕ} {m : Made} {st : Store} {st′ : Store} {index′ : List ℕ} → Outcome h want m st st′ index′ → want ≡ other → Outcome h other m st st′ index′
+pub outcome-as : {h : Used} {want other : Table × ℕ} {m : Made} {st : Store} {st′ : Store} {index′ : List ℕ} → Outcome h want m st st′ index′ → want ≡ other → Outcome h other m st st′ index′
 outcome-as {h} {m = m} {st} {st′} {index′} o e = subst (λ (w : Table × ℕ). Outcome h w m st st′ index′) e o

@@ -20,7 +20,7 @@ use Rattle.diagram.specs.Sound.{Known}
 use Rattle.algebra.specs.Changing.{change, emptied, narrowed, narrow, widened, widen}
 use Rattle.algebra.proofs.Shortcuts.{narrow-open, widen-empty, widen-open}
 use Rattle.merging.proofs.Bottoms.{narrow-is, widen-is}
-use Rattle.making.specs.declared.nodes.Head.{Head}
+use Rattle.making.specs.declared.nodes.Used.{Used}
 use Rattle.making.specs.Outcome.{Lent, tableOf}
 use Rattle.views.proofs.Sights.{known-held}
 use Rattle.walks.proofs.Composing.{sound-of}
@@ -45,13 +45,13 @@ module _ {lower upper : Bound} {r : Range} (b : Bounded lower upper r) (kl : Key
     widen-bounded some =
         ap₂ (λ (lo hi : ℕ). change variables (widened lo hi (topOf v)) t v id) (b .first) (b .last) ∙ sym (widen-is t v lower upper id (empty-is ∙ le-ltb (r .last) (r .first) some))
 
-module _ {h : Head} {st : Store} {index : List ℕ} (l : Lent h st index) (v id : ℕ) (k : KnownTo (h .used) id) (hv : v < firstBoolean) where
+module _ {h : Used} {st : Store} {index : List ℕ} (l : Lent h st index) (v id : ℕ) (k : KnownTo (h .nodes) id) (hv : v < firstBoolean) where
   abbrev t : Table
   t = tableOf h st
 
   -- the id is one of the table
   known : Known t id
-  known = known-held st (h .used) id k
+  known = known-held st (h .nodes) id k
 
   -- "both ends open: the id unchanged" by narrowing, and by widening
   module _ {lower upper : Bound} (both : (lower ≡ Open) × (upper ≡ Open)) where

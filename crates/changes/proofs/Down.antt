@@ -23,7 +23,7 @@ use Rattle.algebra.proofs.Made.{Made}
 use Rattle.algebra.proofs.Descending.{Changes, means, before-yes}
 use Rattle.merging.proofs.Descent.{change-made, change-before, change-here, change-continues, change-kept, change-grown}
 use Rattle.making.specs.declared.edges.Edges as built
-use Rattle.making.specs.declared.nodes.Head.{Head}
+use Rattle.making.specs.declared.nodes.Used.{Used}
 use Rattle.making.specs.declared.nodes.Made as code
 use Rattle.making.specs.Outcome.{Outcome, tableOf}
 use Rattle.views.specs.declared.View.{View}
@@ -43,12 +43,12 @@ module _ (v : ℕ) (hv : v < variables) (g : Pieces ℕ → Pieces ℕ) (ch : Ch
   pub changed-grows : Grows (Changed v g)
   changed-grows t t′ z z′ c x y w e = record { known = omega (arith, continues-length c, e .known); becomes = change-grown v hv g ch z z′ c x w (e .known) (e .becomes) }
 
-  module _ {h : Head} {st : Store} {index memo : List ℕ} (r : Ready (Changed v g) h st index memo) {n id : ℕ} (q : Asked (tableOf h st) (h .used) n id) where
+  module _ {h : Used} {st : Store} {index memo : List ℕ} (r : Ready (Changed v g) h st index memo) {n id : ℕ} (q : Asked (tableOf h st) (h .nodes) n id) where
     abbrev t : Table
     t = tableOf h st
 
     pub id-known : Known t id
-    id-known = known-held st (h .used) id (q .known)
+    id-known = known-held st (h .nodes) id (q .known)
 
     -- At the variable, or past it, the edges there are changed.
     pub here-is : isBefore t v id ≡ false → create-node t v (g (edgesOf t v id)) ≡ changed v g t id
@@ -66,7 +66,7 @@ module _ (v : ℕ) (hv : v < variables) (g : Pieces ℕ → Pieces ℕ) (ch : Ch
       pub before-node : 2 ≤ id
       before-node = omega (arith, is-node t (ref id) (omega (arith, before-yes t v id b)))
 
-      module _ {u : ℕ} (eu : u ≡ (at t (ref id)) .var) {a : View} (va : Views st (h .used) u id a) where
+      module _ {u : ℕ} (eu : u ≡ (at t (ref id)) .var) {a : View} (va : Views st (h .nodes) u id a) where
         -- whose variable is an earlier one,
         pub earlier : u < v
         earlier = omega (arith, eu, before-yes t v id b)
@@ -81,8 +81,8 @@ module _ (v : ℕ) (hv : v < variables) (g : Pieces ℕ → Pieces ℕ) (ch : Ch
             record {
               known = l;
               inside = record { some = va .inside .some; most = va .inside .most; within = λ i. omega (arith, va .inside .within i, r .lent .edges) };
-              rises = views-rising st (h .used) u id a (can-read r) l own va;
-              kids = views-kids st (h .used) u id a (can-read r) l own va;
+              rises = views-rising st (h .nodes) u id a (can-read r) l own va;
+              kids = views-kids st (h .nodes) u id a (can-read r) l own va;
             }
 
         -- with a call left for each,
@@ -108,7 +108,7 @@ not-before {b} e z = sym e ∙ not-true b z
 pub still-before : {b x : Bool} → b ≡ x → not b ≡ false → x ≡ true
 still-before {b} e z = sym e ∙ not-false b z
 
-module _ {v : ℕ} {g : Pieces ℕ → Pieces ℕ} {h : Head} {st : Store} {index memo : List ℕ} (r : Ready (Changed v g) h st index memo) {n id : ℕ} (q : Asked (tableOf h st) (h .used) n id)
+module _ {v : ℕ} {g : Pieces ℕ → Pieces ℕ} {h : Used} {st : Store} {index memo : List ℕ} (r : Ready (Changed v g) h st index memo) {n id : ℕ} (q : Asked (tableOf h st) (h .nodes) n id)
     (hv : v < variables) (ch : Changes v g) {b : Bool} (e : b ≡ isBefore (tableOf h st) v id) where
   -- At the variable, or past it, what is made of the edges there is the answer.
   pub stops : not b ≡ true → {o : code.Made} {st₁ : Store} {index₁ : List ℕ} → Outcome h (create-node (tableOf h st) v (g (edgesOf (tableOf h st) v id))) o st st₁ index₁
@@ -120,21 +120,21 @@ module _ {v : ℕ} {g : Pieces ℕ → Pieces ℕ} {h : Head} {st : Store} {inde
   before-is-node z = before-node v hv g ch r q (still-before e z)
 
   -- and what is remembered of it is the answer.
-  pub recalls : not b ≡ false → (w : NodeId) → Hit memo id TRUE (w .0) → Stepped (Changed v g) h (changed v g (tableOf h st) id) (record { ok = true; id = w; head = h }) st memo st index memo
+  pub recalls : not b ≡ false → (w : NodeId) → Hit memo id TRUE (w .0) → Stepped (Changed v g) h (changed v g (tableOf h st) id) (record { ok = true; id = w; used = h }) st memo st index memo
   recalls z w x = settled r w (memo-hit (r .recalled) (omega (arith, before-is-node z)) x .becomes)
 
 -- A node before the variable, as a step finds it: what the way down knows of it and of the view of its edges.
-pub record Entered (v : ℕ) (g : Pieces ℕ → Pieces ℕ) (h : Head) (st : Store) (index memo : List ℕ) (n id u : ℕ) (a : View) : Type 0 where
+pub record Entered (v : ℕ) (g : Pieces ℕ → Pieces ℕ) (h : Used) (st : Store) (index memo : List ℕ) (n id u : ℕ) (a : View) : Type 0 where
   pub known : v < variables
   pub changes : Changes v g
   pub ready : Ready (Changed v g) h st index memo
-  pub asked : Asked (tableOf h st) (h .used) n id
+  pub asked : Asked (tableOf h st) (h .nodes) n id
   pub before : isBefore (tableOf h st) v id ≡ true
   pub variable : u ≡ (at (tableOf h st) (ref id)) .var
-  pub view : Views st (h .used) u id a
+  pub view : Views st (h .nodes) u id a
 
 -- The laws of the loop over the children of such a node.
-module _ {v : ℕ} {g : Pieces ℕ → Pieces ℕ} {h : Head} {st : Store} {index memo : List ℕ} {n id u : ℕ} {a : View} (e : Entered v g h st index memo n id u a) where
+module _ {v : ℕ} {g : Pieces ℕ → Pieces ℕ} {h : Used} {st : Store} {index memo : List ℕ} {n id u : ℕ} {a : View} (e : Entered v g h st index memo n id u a) where
   abbrev f : Table → ℕ → Table × ℕ
   f = changed v g
 
@@ -154,7 +154,7 @@ module _ {v : ℕ} {g : Pieces ℕ → Pieces ℕ} {h : Head} {st : Store} {inde
   pub starts : (out : built.Edges) → length (out .list) ≡ mostEdges → Gather f h st memo a u (Changed v g) h st index memo out true (a .count)
   starts = gather-starts f h st memo a u own-grows (e .ready) own-side m own-made
 
-  module _ {now : Head} {st₁ : Store} {index₁ memo₁ : List ℕ} {out : built.Edges} {ok : Bool} {left : ℕ}
+  module _ {now : Used} {st₁ : Store} {index₁ memo₁ : List ℕ} {out : built.Edges} {ok : Bool} {left : ℕ}
       (l : Gather f h st memo a u (Changed v g) now st₁ index₁ memo₁ out ok left) where
     -- in each, whose view lies within the slices,
     pub in-children : Inside (length (st₁ .children)) a
@@ -173,14 +173,14 @@ module _ {v : ℕ} {g : Pieces ℕ → Pieces ℕ} {h : Head} {st : Store} {inde
 
       module _ {x : ℕ} (rx : x ≡ childSeen (st₁ .children) a i) where
         -- whose child may be asked about,
-        pub below-asked : Asked (tableOf now st₁) (now .used) (n - 1) x
+        pub below-asked : Asked (tableOf now st₁) (now .nodes) (n - 1) x
         below-asked = kid-asked f h st memo a u own-grows (e .ready) own-side m own-made l on ei rx
             (enough v (e .known) g (e .changes) (e .ready) (e .asked) (e .before) (e .variable) (e .view))
 
-        module _ {k : ℕ} (rk : i + 1 < a .count → k ≡ cutSeen (st₁ .cuts) u a i) {d : code.Made} {nodes₂ children₂ : List ℕ} {cuts₂ : List ℤ} {index₂ memo₂ : List ℕ}
-            (s : Stepped (Changed v g) now (f (tableOf now st₁) x) d st₁ memo₁ nodes₂ children₂ cuts₂ index₂ memo₂) {left₂ : ℕ} (el : (d .ok ≡ true → left₂ ≡ left - 1) × (d .ok ≡ false → left₂ ≡ 0)) where
+        module _ {k : ℕ} (rk : i + 1 < a .count → k ≡ cutSeen (st₁ .cuts) u a i) {d : code.Made} {st₂ : Store} {index₂ memo₂ : List ℕ}
+            (s : Stepped (Changed v g) now (f (tableOf now st₁) x) d st₁ memo₁ st₂ index₂ memo₂) {left₂ : ℕ} (el : (d .ok ≡ true → left₂ ≡ left - 1) × (d .ok ≡ false → left₂ ≡ 0)) where
           -- after it,
-          pub steps : Gather f h st memo a u (Changed v g) (d .head) nodes₂ children₂ cuts₂ index₂ memo₂ (record { list = set (out .list) i (record { cut = k; child = d .id; spare = 0 }); len = out .len }) (d .ok) left₂
+          pub steps : Gather f h st memo a u (Changed v g) (d .used) st₂ index₂ memo₂ (record { list = set (out .list) i (record { cut = k; child = d .id; spare = 0 }); len = out .len }) (d .ok) left₂
           steps = gather-step f h st memo a u own-grows (e .ready) own-side m own-made l on ei rx rk s el
 
           pub loop-falls : left₂ < left
@@ -191,8 +191,8 @@ module _ {v : ℕ} {g : Pieces ℕ → Pieces ℕ} {h : Head} {st : Store} {inde
       pub merges : ok ≡ true → Mergeable (tableOf now st₁) u (record { list = out .list; len = a .count })
       merges = can-merge f h st memo a u own-grows (e .ready) own-side m own-made l off
 
-      pub arrives : {o : code.Made} {nodes₂ children₂ : List ℕ} {cuts₂ : List ℤ} {index₂ memo₂ : List ℕ} → NodeOver ok now id u (record { list = out .list; len = a .count }) st₁ index₁ memo₁ o nodes₂ children₂ cuts₂ index₂ memo₂
-          → Stepped (Changed v g) h (changed v g (tableOf h st) id) o st memo nodes₂ children₂ cuts₂ index₂ memo₂
+      pub arrives : {o : code.Made} {st₂ : Store} {index₂ memo₂ : List ℕ} → NodeOver ok now id u (record { list = out .list; len = a .count }) st₁ index₁ memo₁ o st₂ index₂ memo₂
+          → Stepped (Changed v g) h (changed v g (tableOf h st) id) o st memo st₂ index₂ memo₂
       arrives x =
           let o = over-is v (e .known) g (e .changes) (e .ready) (e .asked) (e .before) (e .variable) (e .view) in
           becomes (gathered f h st memo a u own-grows (e .ready) own-side m own-made l off

@@ -18,7 +18,7 @@ use Rattle.algebra.proofs.Changed.{fixed-changes}
 use Rattle.merging.proofs.Conjoined as joined
 use Rattle.merging.proofs.Bottoms.{create-last}
 use Rattle.table.specs.Held.{held}
-use Rattle.making.specs.declared.nodes.Head.{Head}
+use Rattle.making.specs.declared.nodes.Used.{Used}
 use Rattle.making.specs.Outcome.{tableOf}
 use Rattle.views.specs.declared.View.{View}
 use Rattle.views.specs.Seeing.{Readable, Asked, Views, childSeen, seen}
@@ -61,8 +61,8 @@ abbrev pub restricts : (v : ℕ) (value : Bool) → Changes v (restricting value
 restricts v value = fixed-changes v (cond value 0 1)
 
 -- At the variable, or past it, the child of the value is the answer, and no node is made.
-pub chosen-here : {v : ℕ} (hv : v < variables) (value : Bool) {h : Head} {st : Store} {index memo : List ℕ} → Ready (Changed v (restricting value)) h st index memo
-    → {n id : ℕ} → Asked (tableOf h st) (h .used) n id → {before : Bool} → before ≡ isBefore (tableOf h st) v id → before ≡ false
+pub chosen-here : {v : ℕ} (hv : v < variables) (value : Bool) {h : Used} {st : Store} {index memo : List ℕ} → Ready (Changed v (restricting value)) h st index memo
+    → {n id : ℕ} → Asked (tableOf h st) (h .nodes) n id → {before : Bool} → before ≡ isBefore (tableOf h st) v id → before ≡ false
     → {c : ℕ} → c ≡ select (edgesOf (tableOf h st) v id) (cond value 0 1) → changed v (restricting value) (tableOf h st) id ≡ (tableOf h st, c)
 chosen-here {v} hv value {h} {st} r {n} {id} q e f {c} p =
     let t = tableOf h st in

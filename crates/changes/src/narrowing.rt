@@ -20,8 +20,8 @@ use super::sights::view_at;
 use ids::NodeId;
 use making::edges::Edge;
 use making::edges::Edges;
-use making::nodes::Head;
 use making::nodes::Made;
+use making::nodes::Used;
 use making::nodes::create_node;
 use ranges::bounds::Bound;
 use ranges::spans::Range;
@@ -45,18 +45,18 @@ pub fn narrow(
     cuts: &mut [i64],
     index: &mut [u32],
     memo: &mut [u32],
-    head: Head,
+    used: Used,
     id: NodeId,
     v: usize,
     lower: Bound,
     upper: Bound,
 ) -> Made
-    requires { ⌜ (Lent head (store (now nodes) (now children) (now cuts)) (now index)) × (length (now memo) ≡ room (now nodes) * 3) × (KnownTo (head .used) (id .0)) × (v < firstBoolean) ⌝ }
-    ensures { λ r. ⌜ Worked head (narrows (tableOf head (store (now (nodes .entry)) (now (children .entry)) (now (cuts .entry)))) v lower upper (id .0)) r (store (now (nodes .entry)) (now (children .entry)) (now (cuts .entry))) (now (index .entry)) (now (memo .entry)) (store (now (nodes .exit)) (now (children .exit)) (now (cuts .exit))) (now (index .exit)) (now (memo .exit)) ⌝ }
+    requires { ⌜ (Lent used (store (now nodes) (now children) (now cuts)) (now index)) × (length (now memo) ≡ room (now nodes) * 3) × (KnownTo (used .nodes) (id .0)) × (v < firstBoolean) ⌝ }
+    ensures { λ r. ⌜ Worked used (narrows (tableOf used (store (now (nodes .entry)) (now (children .entry)) (now (cuts .entry)))) v lower upper (id .0)) r (store (now (nodes .entry)) (now (children .entry)) (now (cuts .entry))) (now (index .entry)) (now (memo .entry)) (store (now (nodes .exit)) (now (children .exit)) (now (cuts .exit))) (now (index .exit)) (now (memo .exit)) ⌝ }
 {
     zero_words(memo);
     if both_open(lower, upper) {
-        return Made { ok: true, id, head };
+        return Made { ok: true, id, used };
     }
     let range = Range::from_bounds(lower, upper);
     let m = narrow_from(
@@ -65,13 +65,13 @@ pub fn narrow(
         cuts,
         index,
         memo,
-        head,
+        used,
         id,
         v,
         range,
         VARIABLES + 1,
     );
-    finish(nodes, children, cuts, index, memo, m, head.used)
+    finish(nodes, children, cuts, index, memo, m, used.nodes)
 }
 
 // At the variable: "the answer at a place is the old answer at the nearest place inside the bounds"; with empty bounds FALSE, for both
@@ -81,27 +81,27 @@ fn narrow_here(
     children: &mut [u32],
     cuts: &mut [i64],
     index: &mut [u32],
-    head: Head,
+    used: Used,
     id: NodeId,
     v: usize,
     range: Range,
 ) -> Made
-    requires { ⌜ (Lent head (store (now nodes) (now children) (now cuts)) (now index)) × (KnownTo (head .used) (id .0)) × (isBefore (tableOf head (store (now nodes) (now children) (now cuts))) v (id .0) ≡ false) × (v < firstBoolean) × (range .first ≤ top) × (range .last ≤ top) ⌝ }
-    ensures { λ r. ⌜ Outcome head (create-node (tableOf head (store (now (nodes .entry)) (now (children .entry)) (now (cuts .entry)))) v (narrowing range (edgesOf (tableOf head (store (now (nodes .entry)) (now (children .entry)) (now (cuts .entry)))) v (id .0)))) r (store (now (nodes .entry)) (now (children .entry)) (now (cuts .entry))) (store (now (nodes .exit)) (now (children .exit)) (now (cuts .exit))) (now (index .exit)) ⌝ }
+    requires { ⌜ (Lent used (store (now nodes) (now children) (now cuts)) (now index)) × (KnownTo (used .nodes) (id .0)) × (isBefore (tableOf used (store (now nodes) (now children) (now cuts))) v (id .0) ≡ false) × (v < firstBoolean) × (range .first ≤ top) × (range .last ≤ top) ⌝ }
+    ensures { λ r. ⌜ Outcome used (create-node (tableOf used (store (now (nodes .entry)) (now (children .entry)) (now (cuts .entry)))) v (narrowing range (edgesOf (tableOf used (store (now (nodes .entry)) (now (children .entry)) (now (cuts .entry)))) v (id .0)))) r (store (now (nodes .entry)) (now (children .entry)) (now (cuts .entry))) (store (now (nodes .exit)) (now (children .exit)) (now (cuts .exit))) (now (index .exit)) ⌝ }
 {
-    let a = view_at(nodes, children, cuts, head.used, id, v);
+    let a = view_at(nodes, children, cuts, used.nodes, id, v);
     if a.count == 1 {
-        return Made { ok: true, id, head };
+        return Made { ok: true, id, used };
     }
     if range.is_empty() {
         return Made {
             ok: true,
             id: NodeId::FALSE,
-            head,
+            used,
         };
     }
     let es = clipping::narrowed(children, cuts, a, range);
-    create_node(nodes, children, cuts, index, head, v, es)
+    create_node(nodes, children, cuts, index, used, v, es)
 }
 
 // It calls itself on each child, "ranges left to right", and `ahead`, more than the variables that are still ahead, falls.
@@ -111,27 +111,27 @@ pub fn narrow_from(
     cuts: &mut [i64],
     index: &mut [u32],
     memo: &mut [u32],
-    head: Head,
+    used: Used,
     id: NodeId,
     v: usize,
     range: Range,
     ahead: usize,
 ) -> Made
-    requires { ⌜ (Ready (Changed v (narrowing range)) head (store (now nodes) (now children) (now cuts)) (now index) (now memo)) × (Asked (tableOf head (store (now nodes) (now children) (now cuts))) (head .used) ahead (id .0)) × (v < firstBoolean) × (range .first ≤ top) × (range .last ≤ top) ⌝ }
-    ensures { λ r. ⌜ Stepped (Changed v (narrowing range)) head (changed v (narrowing range) (tableOf head (store (now (nodes .entry)) (now (children .entry)) (now (cuts .entry)))) (id .0)) r (store (now (nodes .entry)) (now (children .entry)) (now (cuts .entry))) (now (memo .entry)) (store (now (nodes .exit)) (now (children .exit)) (now (cuts .exit))) (now (index .exit)) (now (memo .exit)) ⌝ }
+    requires { ⌜ (Ready (Changed v (narrowing range)) used (store (now nodes) (now children) (now cuts)) (now index) (now memo)) × (Asked (tableOf used (store (now nodes) (now children) (now cuts))) (used .nodes) ahead (id .0)) × (v < firstBoolean) × (range .first ≤ top) × (range .last ≤ top) ⌝ }
+    ensures { λ r. ⌜ Stepped (Changed v (narrowing range)) used (changed v (narrowing range) (tableOf used (store (now (nodes .entry)) (now (children .entry)) (now (cuts .entry)))) (id .0)) r (store (now (nodes .entry)) (now (children .entry)) (now (cuts .entry))) (now (memo .entry)) (store (now (nodes .exit)) (now (children .exit)) (now (cuts .exit))) (now (index .exit)) (now (memo .exit)) ⌝ }
 {
-    if !is_before(nodes, children, cuts, head.used, id, v) {
-        return narrow_here(nodes, children, cuts, index, head, id, v, range);
+    if !is_before(nodes, children, cuts, used.nodes, id, v) {
+        return narrow_here(nodes, children, cuts, index, used, id, v, range);
     }
     let s = recall(memo, nodes.len() / RECORD_WORDS, id, NodeId::TRUE);
     if s.done {
         let id = s.id;
-        return Made { ok: true, id, head };
+        return Made { ok: true, id, used };
     }
-    let u = variable(nodes, children, cuts, head.used, id);
-    let a = view_of(nodes, children, cuts, head.used, id, u);
+    let u = variable(nodes, children, cuts, used.nodes, id);
+    let a = view_of(nodes, children, cuts, used.nodes, id, u);
     let mut out = Edges::new();
-    let mut now = head;
+    let mut now = used;
     let mut ok = true;
     let mut left = a.count;
     while 0 < left {
@@ -156,7 +156,7 @@ pub fn narrow_from(
             child: to,
             spare: 0,
         };
-        now = m.head;
+        now = m.used;
         ok = m.ok;
         left = left_after(ok, left);
     }

@@ -19,8 +19,8 @@ use super::sights::view_at;
 use ids::NodeId;
 use making::edges::Edge;
 use making::edges::Edges;
-use making::nodes::Head;
 use making::nodes::Made;
+use making::nodes::Used;
 use table::fresh::zero_words;
 use table::limits::FIRST_BOOLEAN;
 use table::limits::RECORD_WORDS;
@@ -43,17 +43,17 @@ pub fn restrict(
     cuts: &mut [i64],
     index: &mut [u32],
     memo: &mut [u32],
-    head: Head,
+    used: Used,
     id: NodeId,
     v: usize,
     value: bool,
 ) -> Made
-    requires { ⌜ (Lent head (store (now nodes) (now children) (now cuts)) (now index)) × (length (now memo) ≡ room (now nodes) * 3) × (KnownTo (head .used) (id .0)) × (v < variables) ⌝ }
-    ensures { λ r. ⌜ Worked head (restriction (tableOf head (store (now (nodes .entry)) (now (children .entry)) (now (cuts .entry)))) v value (id .0)) r (store (now (nodes .entry)) (now (children .entry)) (now (cuts .entry))) (now (index .entry)) (now (memo .entry)) (store (now (nodes .exit)) (now (children .exit)) (now (cuts .exit))) (now (index .exit)) (now (memo .exit)) ⌝ }
+    requires { ⌜ (Lent used (store (now nodes) (now children) (now cuts)) (now index)) × (length (now memo) ≡ room (now nodes) * 3) × (KnownTo (used .nodes) (id .0)) × (v < variables) ⌝ }
+    ensures { λ r. ⌜ Worked used (restriction (tableOf used (store (now (nodes .entry)) (now (children .entry)) (now (cuts .entry)))) v value (id .0)) r (store (now (nodes .entry)) (now (children .entry)) (now (cuts .entry))) (now (index .entry)) (now (memo .entry)) (store (now (nodes .exit)) (now (children .exit)) (now (cuts .exit))) (now (index .exit)) (now (memo .exit)) ⌝ }
 {
     zero_words(memo);
     if v < FIRST_BOOLEAN {
-        return Made { ok: true, id, head };
+        return Made { ok: true, id, used };
     }
     let m = restrict_from(
         nodes,
@@ -61,13 +61,13 @@ pub fn restrict(
         cuts,
         index,
         memo,
-        head,
+        used,
         id,
         v,
         value,
         VARIABLES + 1,
     );
-    finish(nodes, children, cuts, index, memo, m, head.used)
+    finish(nodes, children, cuts, index, memo, m, used.nodes)
 }
 
 // The edge of the value, of an id that tests no variable before v: no node is made.
@@ -96,32 +96,32 @@ pub fn restrict_from(
     cuts: &mut [i64],
     index: &mut [u32],
     memo: &mut [u32],
-    head: Head,
+    used: Used,
     id: NodeId,
     v: usize,
     value: bool,
     ahead: usize,
 ) -> Made
-    requires { ⌜ (Ready (Changed v (restricting value)) head (store (now nodes) (now children) (now cuts)) (now index) (now memo)) × (Asked (tableOf head (store (now nodes) (now children) (now cuts))) (head .used) ahead (id .0)) × (firstBoolean ≤ v) × (v < variables) ⌝ }
-    ensures { λ r. ⌜ Stepped (Changed v (restricting value)) head (changed v (restricting value) (tableOf head (store (now (nodes .entry)) (now (children .entry)) (now (cuts .entry)))) (id .0)) r (store (now (nodes .entry)) (now (children .entry)) (now (cuts .entry))) (now (memo .entry)) (store (now (nodes .exit)) (now (children .exit)) (now (cuts .exit))) (now (index .exit)) (now (memo .exit)) ⌝ }
+    requires { ⌜ (Ready (Changed v (restricting value)) used (store (now nodes) (now children) (now cuts)) (now index) (now memo)) × (Asked (tableOf used (store (now nodes) (now children) (now cuts))) (used .nodes) ahead (id .0)) × (firstBoolean ≤ v) × (v < variables) ⌝ }
+    ensures { λ r. ⌜ Stepped (Changed v (restricting value)) used (changed v (restricting value) (tableOf used (store (now (nodes .entry)) (now (children .entry)) (now (cuts .entry)))) (id .0)) r (store (now (nodes .entry)) (now (children .entry)) (now (cuts .entry))) (now (memo .entry)) (store (now (nodes .exit)) (now (children .exit)) (now (cuts .exit))) (now (index .exit)) (now (memo .exit)) ⌝ }
 {
-    if !is_before(nodes, children, cuts, head.used, id, v) {
-        let to = chosen(nodes, children, cuts, head.used, id, v, value);
+    if !is_before(nodes, children, cuts, used.nodes, id, v) {
+        let to = chosen(nodes, children, cuts, used.nodes, id, v, value);
         return Made {
             ok: true,
             id: to,
-            head,
+            used,
         };
     }
     let s = recall(memo, nodes.len() / RECORD_WORDS, id, NodeId::TRUE);
     if s.done {
         let id = s.id;
-        return Made { ok: true, id, head };
+        return Made { ok: true, id, used };
     }
-    let u = variable(nodes, children, cuts, head.used, id);
-    let a = view_of(nodes, children, cuts, head.used, id, u);
+    let u = variable(nodes, children, cuts, used.nodes, id);
+    let a = view_of(nodes, children, cuts, used.nodes, id, u);
     let mut out = Edges::new();
-    let mut now = head;
+    let mut now = used;
     let mut ok = true;
     let mut left = a.count;
     while 0 < left {
@@ -146,7 +146,7 @@ pub fn restrict_from(
             child: to,
             spare: 0,
         };
-        now = m.head;
+        now = m.used;
         ok = m.ok;
         left = left_after(ok, left);
     }

@@ -24,7 +24,7 @@ use Rattle.algebra.specs.Making.{settle, create-node}
 use Rattle.algebra.specs.Conditions.{between, terminal, from-range, comparison}
 use Rattle.table.proofs.Laws.{clash}
 use Rattle.making.specs.declared.edges.Edges as built
-use Rattle.making.specs.declared.nodes.Head.{Head}
+use Rattle.making.specs.declared.nodes.Used.{Used}
 use Rattle.making.specs.declared.nodes.Made.{Made}
 use Rattle.making.specs.Building.{Building, piecesOf}
 use Rattle.making.specs.Outcome.{Outcome, Untouched, Buildable}
@@ -55,11 +55,11 @@ pub key-handed : {op : Comparison} {key : ℤ} {c : Compared} → SFits w32 key 
 key-handed {key = key} f k = rw (toZ-ofZ w32 key f) at k
 
 -- What a making function of one node promises.
-abbrev pub Promised : Head → Store → List ℕ → Store → List ℕ → Table × ℕ → Made → Type 0
+abbrev pub Promised : Used → Store → List ℕ → Store → List ℕ → Table × ℕ → Made → Type 0
 Promised h st index st′ index′ want r =
     Outcome h want r st st′ index′ × (r .ok ≡ false → Untouched st index st′ index′)
 
-module _ {h : Head} {st : Store} {index : List ℕ} {st′ : Store} {index′ : List ℕ} where
+module _ {h : Used} {st : Store} {index : List ℕ} {st′ : Store} {index′ : List ℕ} where
   -- What is promised under one name is promised under another.
   pub promised-as : {want other : Table × ℕ} {r : Made} → Promised h st index st′ index′ want r → want ≡ other → Promised h st index st′ index′ other r
   promised-as {r = r} p e = subst (λ (w : Table × ℕ). Promised h st index st′ index′ w r) e p
@@ -71,7 +71,7 @@ module _ {h : Head} {st : Store} {index : List ℕ} {st′ : Store} {index′ : 
     inside-wanted e = let o = sym (k .side) ∙ e in rw o (promised-as p (range-wanted t v (k .between)))
 
     -- != is it flipped,
-    pub outside-wanted : c .outside ≡ true → r .ok ≡ true → (id : NodeId) → id .0 ≡ flip (r .id .0) → Promised h st index st′ index′ (comparison t v op key) (record { ok = true; id = id; head = r .head })
+    pub outside-wanted : c .outside ≡ true → r .ok ≡ true → (id : NodeId) → id .0 ≡ flip (r .id .0) → Promised h st index st′ index′ (comparison t v op key) (record { ok = true; id = id; used = r .used })
     unfolding comparison
     outside-wanted e y id q =
         let o = sym (k .side) ∙ e in

@@ -15,8 +15,8 @@ ghost use Rattle.table.specs.Layout.{store};
 use ids::NodeId;
 use making::edges::Edge;
 use making::edges::Edges;
-use making::nodes::Head;
 use making::nodes::Made;
+use making::nodes::Used;
 use making::nodes::create_node;
 use making::nodes::create_pair;
 use ranges::bounds::Bound;
@@ -76,15 +76,15 @@ fn within(
     children: &mut [u32],
     cuts: &mut [i64],
     index: &mut [u32],
-    head: Head,
+    used: Used,
     v: usize,
     range: Range,
 ) -> Made
-    requires { ⌜ (Lent head (store (now nodes) (now children) (now cuts)) (now index)) × (v < firstBoolean) × (range .first ≤ top) × (range .last ≤ top) ⌝ }
-    ensures { λ r. ⌜ (Outcome head (create-node (tableOf head (store (now (nodes .entry)) (now (children .entry)) (now (cuts .entry)))) v (map terminal (between (range .first) (range .last) (topOf v)))) r (store (now (nodes .entry)) (now (children .entry)) (now (cuts .entry))) (store (now (nodes .exit)) (now (children .exit)) (now (cuts .exit))) (now (index .exit))) × (r .ok ≡ false → Untouched (store (now (nodes .entry)) (now (children .entry)) (now (cuts .entry))) (now (index .entry)) (store (now (nodes .exit)) (now (children .exit)) (now (cuts .exit))) (now (index .exit))) ⌝ }
+    requires { ⌜ (Lent used (store (now nodes) (now children) (now cuts)) (now index)) × (v < firstBoolean) × (range .first ≤ top) × (range .last ≤ top) ⌝ }
+    ensures { λ r. ⌜ (Outcome used (create-node (tableOf used (store (now (nodes .entry)) (now (children .entry)) (now (cuts .entry)))) v (map terminal (between (range .first) (range .last) (topOf v)))) r (store (now (nodes .entry)) (now (children .entry)) (now (cuts .entry))) (store (now (nodes .exit)) (now (children .exit)) (now (cuts .exit))) (now (index .exit))) × (r .ok ≡ false → Untouched (store (now (nodes .entry)) (now (children .entry)) (now (cuts .entry))) (now (index .entry)) (store (now (nodes .exit)) (now (children .exit)) (now (cuts .exit))) (now (index .exit))) ⌝ }
 {
     let es = edges_of(range);
-    create_node(nodes, children, cuts, index, head, v, es)
+    create_node(nodes, children, cuts, index, used, v, es)
 }
 
 // "A range by two bounds".
@@ -93,16 +93,16 @@ pub fn from_range(
     children: &mut [u32],
     cuts: &mut [i64],
     index: &mut [u32],
-    head: Head,
+    used: Used,
     v: usize,
     lower: Bound,
     upper: Bound,
 ) -> Made
-    requires { ⌜ (Lent head (store (now nodes) (now children) (now cuts)) (now index)) × (v < firstBoolean) ⌝ }
-    ensures { λ r. ⌜ (Outcome head (from-range (tableOf head (store (now (nodes .entry)) (now (children .entry)) (now (cuts .entry)))) v lower upper) r (store (now (nodes .entry)) (now (children .entry)) (now (cuts .entry))) (store (now (nodes .exit)) (now (children .exit)) (now (cuts .exit))) (now (index .exit))) × (r .ok ≡ false → Untouched (store (now (nodes .entry)) (now (children .entry)) (now (cuts .entry))) (now (index .entry)) (store (now (nodes .exit)) (now (children .exit)) (now (cuts .exit))) (now (index .exit))) ⌝ }
+    requires { ⌜ (Lent used (store (now nodes) (now children) (now cuts)) (now index)) × (v < firstBoolean) ⌝ }
+    ensures { λ r. ⌜ (Outcome used (from-range (tableOf used (store (now (nodes .entry)) (now (children .entry)) (now (cuts .entry)))) v lower upper) r (store (now (nodes .entry)) (now (children .entry)) (now (cuts .entry))) (store (now (nodes .exit)) (now (children .exit)) (now (cuts .exit))) (now (index .exit))) × (r .ok ≡ false → Untouched (store (now (nodes .entry)) (now (children .entry)) (now (cuts .entry))) (now (index .entry)) (store (now (nodes .exit)) (now (children .exit)) (now (cuts .exit))) (now (index .exit))) ⌝ }
 {
     let range = Range::from_bounds(lower, upper);
-    within(nodes, children, cuts, index, head, v, range)
+    within(nodes, children, cuts, index, used, v, range)
 }
 
 // "Six comparisons with a key: = != < <= > >=". The id for != is that for =, flipped.
@@ -111,24 +111,24 @@ pub fn from_comparison(
     children: &mut [u32],
     cuts: &mut [i64],
     index: &mut [u32],
-    head: Head,
+    used: Used,
     v: usize,
     op: Comparison,
     key: i32,
 ) -> Made
-    requires { ⌜ (Lent head (store (now nodes) (now children) (now cuts)) (now index)) × (v < firstBoolean) ⌝ }
-    ensures { λ r. ⌜ (Outcome head (comparison (tableOf head (store (now (nodes .entry)) (now (children .entry)) (now (cuts .entry)))) v op key) r (store (now (nodes .entry)) (now (children .entry)) (now (cuts .entry))) (store (now (nodes .exit)) (now (children .exit)) (now (cuts .exit))) (now (index .exit))) × (r .ok ≡ false → Untouched (store (now (nodes .entry)) (now (children .entry)) (now (cuts .entry))) (now (index .entry)) (store (now (nodes .exit)) (now (children .exit)) (now (cuts .exit))) (now (index .exit))) ⌝ }
+    requires { ⌜ (Lent used (store (now nodes) (now children) (now cuts)) (now index)) × (v < firstBoolean) ⌝ }
+    ensures { λ r. ⌜ (Outcome used (comparison (tableOf used (store (now (nodes .entry)) (now (children .entry)) (now (cuts .entry)))) v op key) r (store (now (nodes .entry)) (now (children .entry)) (now (cuts .entry))) (store (now (nodes .exit)) (now (children .exit)) (now (cuts .exit))) (now (index .exit))) × (r .ok ≡ false → Untouched (store (now (nodes .entry)) (now (children .entry)) (now (cuts .entry))) (now (index .entry)) (store (now (nodes .exit)) (now (children .exit)) (now (cuts .exit))) (now (index .exit))) ⌝ }
 {
     let compared = ranges::spans::from_comparison(op, key);
     let range = compared.range;
-    let made = within(nodes, children, cuts, index, head, v, range);
+    let made = within(nodes, children, cuts, index, used, v, range);
     if compared.outside && made.ok {
         let id = made.id;
-        let head = made.head;
+        let used = made.used;
         return Made {
             ok: true,
             id: id.not(),
-            head,
+            used,
         };
     }
     made
@@ -140,13 +140,13 @@ pub fn from_bool(
     children: &mut [u32],
     cuts: &mut [i64],
     index: &mut [u32],
-    head: Head,
+    used: Used,
     v: usize,
 ) -> Made
-    requires { ⌜ (Lent head (store (now nodes) (now children) (now cuts)) (now index)) × (firstBoolean ≤ v) × (v < variables) ⌝ }
-    ensures { λ r. ⌜ (Outcome head (from-bool (tableOf head (store (now (nodes .entry)) (now (children .entry)) (now (cuts .entry)))) v) r (store (now (nodes .entry)) (now (children .entry)) (now (cuts .entry))) (store (now (nodes .exit)) (now (children .exit)) (now (cuts .exit))) (now (index .exit))) × (r .ok ≡ false → Untouched (store (now (nodes .entry)) (now (children .entry)) (now (cuts .entry))) (now (index .entry)) (store (now (nodes .exit)) (now (children .exit)) (now (cuts .exit))) (now (index .exit))) ⌝ }
+    requires { ⌜ (Lent used (store (now nodes) (now children) (now cuts)) (now index)) × (firstBoolean ≤ v) × (v < variables) ⌝ }
+    ensures { λ r. ⌜ (Outcome used (from-bool (tableOf used (store (now (nodes .entry)) (now (children .entry)) (now (cuts .entry)))) v) r (store (now (nodes .entry)) (now (children .entry)) (now (cuts .entry))) (store (now (nodes .exit)) (now (children .exit)) (now (cuts .exit))) (now (index .exit))) × (r .ok ≡ false → Untouched (store (now (nodes .entry)) (now (children .entry)) (now (cuts .entry))) (now (index .entry)) (store (now (nodes .exit)) (now (children .exit)) (now (cuts .exit))) (now (index .exit))) ⌝ }
 {
     let high = NodeId::TRUE;
     let low = NodeId::FALSE;
-    create_pair(nodes, children, cuts, index, head, v, high, low)
+    create_pair(nodes, children, cuts, index, used, v, high, low)
 }

@@ -23,7 +23,7 @@ use Rattle.algebra.proofs.Conjoining.{opening-none}
 use Rattle.table.specs.Layout.{start, Store}
 use Rattle.table.proofs.Laws.{split}
 use Rattle.merging.proofs.Conjoined as joined
-use Rattle.making.specs.declared.nodes.Head.{Head}
+use Rattle.making.specs.declared.nodes.Used.{Used}
 use Rattle.making.specs.Outcome.{tableOf}
 use Rattle.views.specs.declared.View.{View}
 use Rattle.views.specs.Seeing.{Asked, Inside, Views, seen}
@@ -46,11 +46,11 @@ entry-grown t t′ z z′ g x y c e = record {
 abbrev pub conj-walk : (v n : ℕ) → Walk v n
 conj-walk v n = record { note = Entry; grows = entry-grown; f = pairs n; m = λ t p α. value t α (p .0) && value t α (p .1); made = λ e t z. joined.conj-made n t (suc v) e }
 
-module _ {h : Head} {st : Store} {index memo : List ℕ} (r : Ready Entry h st index memo) where
+module _ {h : Used} {st : Store} {index memo : List ℕ} (r : Ready Entry h st index memo) where
   abbrev t : Table
   t = tableOf h st
 
-  module _ {n x y : ℕ} (ax : Asked t (h .used) n x) (ay : Asked t (h .used) n y) where
+  module _ {n x y : ℕ} (ax : Asked t (h .nodes) n x) (ay : Asked t (h .nodes) n y) where
     abbrev u : ℕ
     u = (at t (ref x)) .var
 
@@ -58,10 +58,10 @@ module _ {h : Head} {st : Store} {index memo : List ℕ} (r : Ready Entry h st i
     w = (at t (ref y)) .var
 
     left-known : Known t x
-    left-known = known-held st (h .used) x (ax .known)
+    left-known = known-held st (h .nodes) x (ax .known)
 
     right-known : Known t y
-    right-known = known-held st (h .used) y (ay .known)
+    right-known = known-held st (h .nodes) y (ay .known)
 
     one-less : n ≡ suc (n - 1)
     one-less = omega (arith, call-left r ax)
@@ -95,7 +95,7 @@ module _ {h : Head} {st : Store} {index memo : List ℕ} (r : Ready Entry h st i
       pub right-node : 2 ≤ y
       right-node = opening-none x y none .1
 
-      module _ {v : ℕ} {a b : View} (ev : v ≡ min u w) (hv : v < variables) (va : Views st (h .used) v x a) (vb : Views st (h .used) v y b) where
+      module _ {v : ℕ} {a b : View} (ev : v ≡ min u w) (hv : v < variables) (va : Views st (h .nodes) v x a) (vb : Views st (h .nodes) v y b) where
         lx : Child t v x
         lx = (left-known, omega (arith, ev))
 
@@ -103,10 +103,10 @@ module _ {h : Head} {st : Store} {index memo : List ℕ} (r : Ready Entry h st i
         ly = (right-known, omega (arith, ev))
 
         -- A side that tests the variable has two edges or more, and one that does not has one.
-        many : (id : ℕ) (c : View) → Known t id → Views st (h .used) v id c → (at t (ref id)) .var ≡ v → 2 ≤ c .count
+        many : (id : ℕ) (c : View) → Known t id → Views st (h .nodes) v id c → (at t (ref id)) .var ≡ v → 2 ≤ c .count
         many id c k vc e = omega (arith, facts t (sound-of (r .lent)) (ref id) (is-node t (ref id) (omega (arith, e))) k .many, count-own t v id e, ap count (vc .edges), seen-count (st .children) (st .cuts) v c (vc .inside .some))
 
-        one : (id : ℕ) (c : View) → Views st (h .used) v id c → ((at t (ref id)) .var ≡ v → ⊥) → c .count ≡ 1
+        one : (id : ℕ) (c : View) → Views st (h .nodes) v id c → ((at t (ref id)) .var ≡ v → ⊥) → c .count ≡ 1
         one id c vc e = sym (seen-count (st .children) (st .cuts) v c (vc .inside .some)) ∙ (ap count (vc .edges) ∙ ap count (edge-other t v id e))
 
         tested : 2 < a .count + b .count
@@ -116,7 +116,7 @@ module _ {h : Head} {st : Store} {index memo : List ℕ} (r : Ready Entry h st i
             which (yes e) = inl e
             which (no e) = inr (⊎-elim (λ l. absurd (e (omega (arith, ev)))) (λ l. omega (arith, ev)) (split u (suc w)))
 
-        within : {c : View} → Inside (start (st .nodes) (h .used)) c → Inside (h .edges) c
+        within : {c : View} → Inside (start (st .nodes) (h .nodes)) c → Inside (h .edges) c
         within {c} i = record { some = i .some; most = i .most; within = λ l. omega (arith, i .within l, r .lent .edges) }
 
         pub sides : Sides t (h .edges) (st .children) (st .cuts) v (n - 1) a b
@@ -126,10 +126,10 @@ module _ {h : Head} {st : Store} {index memo : List ℕ} (r : Ready Entry h st i
           tested = tested;
           left = within (va .inside);
           right = within (vb .inside);
-          left-rises = views-rising st (h .used) v x a (can-read r) hv lx va;
-          right-rises = views-rising st (h .used) v y b (can-read r) hv ly vb;
-          left-kids = views-kids st (h .used) v x a (can-read r) hv lx va;
-          right-kids = views-kids st (h .used) v y b (can-read r) hv ly vb;
+          left-rises = views-rising st (h .nodes) v x a (can-read r) hv lx va;
+          right-rises = views-rising st (h .nodes) v y b (can-read r) hv ly vb;
+          left-kids = views-kids st (h .nodes) v x a (can-read r) hv lx va;
+          right-kids = views-kids st (h .nodes) v y b (can-read r) hv ly vb;
         }
 
         -- Both test a boolean variable exactly when they have as many edges.
@@ -137,10 +137,10 @@ module _ {h : Head} {st : Store} {index memo : List ℕ} (r : Ready Entry h st i
         same-count g = go (ℕ-discrete u v) (ℕ-discrete w v)
           where
             ca : a .count ≤ 2
-            ca = count-bool st (h .used) v x a (can-read r) hv lx va g
+            ca = count-bool st (h .nodes) v x a (can-read r) hv lx va g
 
             cb : b .count ≤ 2
-            cb = count-bool st (h .used) v y b (can-read r) hv ly vb g
+            cb = count-bool st (h .nodes) v y b (can-read r) hv ly vb g
 
             go : Dec (u ≡ v) → Dec (w ≡ v) → eqb (a .count) (b .count) ≡ eqb u w
             go (yes p) (yes q) = eq-eqb (a .count) (b .count) (omega (arith, many x a left-known va p, many y b right-known vb q, ca, cb)) ∙ sym (eq-eqb u w (p ∙ sym q))

@@ -9,7 +9,7 @@ use borrow.Author.Tests.{lt-ltb, le-ltb}
 use Rattle.diagram.specs.Table.{firstBoolean, isRange}
 use Rattle.views.specs.declared.View.{View}
 use Rattle.views.specs.Seeing.{seen}
-use Rattle.making.specs.declared.nodes.Head.{Head}
+use Rattle.making.specs.declared.nodes.Used.{Used}
 use Rattle.making.specs.declared.nodes.Made.{Made}
 use Rattle.making.specs.Outcome.{tableOf}
 use Rattle.walks.specs.Walking.{Stepped, both}
@@ -23,7 +23,7 @@ range-order v h z = rw (lt-ltb v firstBoolean h) refl
 bool-order : (v : ℕ) → firstBoolean ≤ v → (z : Bool) → z ≡ (not (isRange v) && z)
 bool-order v h z = rw (le-ltb v firstBoolean h) refl
 
-module _ (h : Head) (st : Store) (memo : List ℕ) (a b : View) (v n : ℕ) {m : Made} {st′ : Store} {index′ memo′ : List ℕ} where
+module _ (h : Used) (st : Store) (memo : List ℕ) (a b : View) (v n : ℕ) {m : Made} {st′ : Store} {index′ memo′ : List ℕ} where
   pub left-to-right : v < firstBoolean → Stepped Entry h (both false (pairs n) (tableOf h st) v (seen (st .children) (st .cuts) v a 0) (seen (st .children) (st .cuts) v b 0)) m st memo st′ index′ memo′ → Stepped Entry h (both (not (isRange v) && not (eqb (a .count) (b .count))) (pairs n) (tableOf h st) v (seen (st .children) (st .cuts) v a 0) (seen (st .children) (st .cuts) v b 0)) m st memo st′ index′ memo′
   left-to-right l c = becomes c (ap (λ (back : Bool). both back (pairs n) (tableOf h st) v (seen (st .children) (st .cuts) v a 0) (seen (st .children) (st .cuts) v b 0)) (range-order v l (not (eqb (a .count) (b .count)))))
 

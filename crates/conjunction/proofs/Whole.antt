@@ -7,14 +7,14 @@ use Rattle.ids.specs.Id.{flip}
 use Rattle.ids.specs.declared.NodeId.{NodeId}
 use Rattle.diagram.specs.Table.{Table}
 use Rattle.algebra.specs.Conjunction.{and, or}
-use Rattle.making.specs.declared.nodes.Head.{Head}
+use Rattle.making.specs.declared.nodes.Used.{Used}
 use Rattle.making.specs.declared.nodes.Made.{Made}
 use Rattle.walks.specs.Walking.{Worked}
 use Rattle.table.specs.Layout.{Store}
 
-pub or-joined : {h : Head} (t : Table) (x y : ℕ) {m : Made} {st : Store} {index memo : List ℕ} {st′ : Store} {index′ memo′ : List ℕ} (i j : ℕ) → i ≡ flip x → j ≡ flip y
+pub or-joined : {h : Used} (t : Table) (x y : ℕ) {m : Made} {st : Store} {index memo : List ℕ} {st′ : Store} {index′ memo′ : List ℕ} (i j : ℕ) → i ≡ flip x → j ≡ flip y
     → Worked h (and t i j) m st index memo st′ index′ memo′ → (id : NodeId) → id .0 ≡ flip (m .id .0)
-    → Worked h (or t x y) (record { ok = m .ok; id = id; head = m .head }) st index memo st′ index′ memo′
+    → Worked h (or t x y) (record { ok = m .ok; id = id; used = m .used }) st index memo st′ index′ memo′
 unfolding or
 or-joined t x y i j p q c id e = record {
   outcome = record {

@@ -9,8 +9,8 @@ ghost use Rattle.making.specs.Outcome.{Lent, tableOf};
 ghost use Rattle.walks.specs.Walking.{Worked};
 use super::pairs::conjoin;
 use ids::NodeId;
-use making::nodes::Head;
 use making::nodes::Made;
+use making::nodes::Used;
 use table::fresh::zero_words;
 use table::limits::VARIABLES;
 use walks::finish::finish;
@@ -22,12 +22,12 @@ pub fn and(
     cuts: &mut [i64],
     index: &mut [u32],
     memo: &mut [u32],
-    head: Head,
+    used: Used,
     x: NodeId,
     y: NodeId,
 ) -> Made
-    requires { ⌜ (Lent head (store (now nodes) (now children) (now cuts)) (now index)) × (length (now memo) ≡ room (now nodes) * 3) × (KnownTo (head .used) (x .0)) × (KnownTo (head .used) (y .0)) ⌝ }
-    ensures { λ r. ⌜ Worked head (conjunction (tableOf head (store (now (nodes .entry)) (now (children .entry)) (now (cuts .entry)))) (x .0) (y .0)) r (store (now (nodes .entry)) (now (children .entry)) (now (cuts .entry))) (now (index .entry)) (now (memo .entry)) (store (now (nodes .exit)) (now (children .exit)) (now (cuts .exit))) (now (index .exit)) (now (memo .exit)) ⌝ }
+    requires { ⌜ (Lent used (store (now nodes) (now children) (now cuts)) (now index)) × (length (now memo) ≡ room (now nodes) * 3) × (KnownTo (used .nodes) (x .0)) × (KnownTo (used .nodes) (y .0)) ⌝ }
+    ensures { λ r. ⌜ Worked used (conjunction (tableOf used (store (now (nodes .entry)) (now (children .entry)) (now (cuts .entry)))) (x .0) (y .0)) r (store (now (nodes .entry)) (now (children .entry)) (now (cuts .entry))) (now (index .entry)) (now (memo .entry)) (store (now (nodes .exit)) (now (children .exit)) (now (cuts .exit))) (now (index .exit)) (now (memo .exit)) ⌝ }
 {
     zero_words(memo);
     let m = conjoin(
@@ -36,12 +36,12 @@ pub fn and(
         cuts,
         index,
         memo,
-        head,
+        used,
         x,
         y,
         VARIABLES + 1,
     );
-    finish(nodes, children, cuts, index, memo, m, head.used)
+    finish(nodes, children, cuts, index, memo, m, used.nodes)
 }
 
 // "`or` by negation."
@@ -51,19 +51,19 @@ pub fn or(
     cuts: &mut [i64],
     index: &mut [u32],
     memo: &mut [u32],
-    head: Head,
+    used: Used,
     x: NodeId,
     y: NodeId,
 ) -> Made
-    requires { ⌜ (Lent head (store (now nodes) (now children) (now cuts)) (now index)) × (length (now memo) ≡ room (now nodes) * 3) × (KnownTo (head .used) (x .0)) × (KnownTo (head .used) (y .0)) ⌝ }
-    ensures { λ r. ⌜ Worked head (disjunction (tableOf head (store (now (nodes .entry)) (now (children .entry)) (now (cuts .entry)))) (x .0) (y .0)) r (store (now (nodes .entry)) (now (children .entry)) (now (cuts .entry))) (now (index .entry)) (now (memo .entry)) (store (now (nodes .exit)) (now (children .exit)) (now (cuts .exit))) (now (index .exit)) (now (memo .exit)) ⌝ }
+    requires { ⌜ (Lent used (store (now nodes) (now children) (now cuts)) (now index)) × (length (now memo) ≡ room (now nodes) * 3) × (KnownTo (used .nodes) (x .0)) × (KnownTo (used .nodes) (y .0)) ⌝ }
+    ensures { λ r. ⌜ Worked used (disjunction (tableOf used (store (now (nodes .entry)) (now (children .entry)) (now (cuts .entry)))) (x .0) (y .0)) r (store (now (nodes .entry)) (now (children .entry)) (now (cuts .entry))) (now (index .entry)) (now (memo .entry)) (store (now (nodes .exit)) (now (children .exit)) (now (cuts .exit))) (now (index .exit)) (now (memo .exit)) ⌝ }
 {
-    let m = and(nodes, children, cuts, index, memo, head, x.not(), y.not());
+    let m = and(nodes, children, cuts, index, memo, used, x.not(), y.not());
     let id = m.id;
-    let now = m.head;
+    let now = m.used;
     Made {
         ok: m.ok,
         id: id.not(),
-        head: now,
+        used: now,
     }
 }

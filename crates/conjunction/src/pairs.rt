@@ -15,8 +15,8 @@ use ids::NodeId;
 use making::edges::Edge;
 use making::edges::Edges;
 use making::edges::slot_for;
-use making::nodes::Head;
 use making::nodes::Made;
+use making::nodes::Used;
 use making::nodes::create_node;
 use making::nodes::create_pair;
 use table::limits::FIRST_BOOLEAN;
@@ -39,29 +39,29 @@ pub fn conjoin(
     cuts: &mut [i64],
     index: &mut [u32],
     memo: &mut [u32],
-    head: Head,
+    used: Used,
     x: NodeId,
     y: NodeId,
     ahead: usize,
 ) -> Made
-    requires { ⌜ (Ready Entry head (store (now nodes) (now children) (now cuts)) (now index) (now memo)) × (Asked (tableOf head (store (now nodes) (now children) (now cuts))) (head .used) ahead (x .0)) × (Asked (tableOf head (store (now nodes) (now children) (now cuts))) (head .used) ahead (y .0)) ⌝ }
-    ensures { λ r. ⌜ Stepped Entry head (conj ahead (tableOf head (store (now (nodes .entry)) (now (children .entry)) (now (cuts .entry)))) (x .0) (y .0)) r (store (now (nodes .entry)) (now (children .entry)) (now (cuts .entry))) (now (memo .entry)) (store (now (nodes .exit)) (now (children .exit)) (now (cuts .exit))) (now (index .exit)) (now (memo .exit)) ⌝ }
+    requires { ⌜ (Ready Entry used (store (now nodes) (now children) (now cuts)) (now index) (now memo)) × (Asked (tableOf used (store (now nodes) (now children) (now cuts))) (used .nodes) ahead (x .0)) × (Asked (tableOf used (store (now nodes) (now children) (now cuts))) (used .nodes) ahead (y .0)) ⌝ }
+    ensures { λ r. ⌜ Stepped Entry used (conj ahead (tableOf used (store (now (nodes .entry)) (now (children .entry)) (now (cuts .entry)))) (x .0) (y .0)) r (store (now (nodes .entry)) (now (children .entry)) (now (cuts .entry))) (now (memo .entry)) (store (now (nodes .exit)) (now (children .exit)) (now (cuts .exit))) (now (index .exit)) (now (memo .exit)) ⌝ }
 {
     let s = opened(x, y);
     if s.done {
         let id = s.id;
-        return Made { ok: true, id, head };
+        return Made { ok: true, id, used };
     }
     let rooms = nodes.len() / RECORD_WORDS;
     let s = recall(memo, rooms, x, y);
     if s.done {
         let id = s.id;
-        return Made { ok: true, id, head };
+        return Made { ok: true, id, used };
     }
-    let v = first_variable(nodes, children, cuts, head.used, x, y);
-    let a = view_of(nodes, children, cuts, head.used, x, v);
-    let b = view_of(nodes, children, cuts, head.used, y, v);
-    let m = apply(nodes, children, cuts, index, memo, head, a, b, v, ahead - 1);
+    let v = first_variable(nodes, children, cuts, used.nodes, x, y);
+    let a = view_of(nodes, children, cuts, used.nodes, x, v);
+    let b = view_of(nodes, children, cuts, used.nodes, y, v);
+    let m = apply(nodes, children, cuts, index, memo, used, a, b, v, ahead - 1);
     if m.ok {
         let id = m.id;
         remember(memo, rooms, x, y, id);
@@ -78,27 +78,27 @@ fn apply(
     cuts: &mut [i64],
     index: &mut [u32],
     memo: &mut [u32],
-    head: Head,
+    used: Used,
     a: View,
     b: View,
     v: usize,
     ahead: usize,
 ) -> Made
-    requires { ⌜ (Ready Entry head (store (now nodes) (now children) (now cuts)) (now index) (now memo)) × (Sides (tableOf head (store (now nodes) (now children) (now cuts))) (head .edges) (now children) (now cuts) v ahead a b) ⌝ }
-    ensures { λ r. ⌜ Stepped Entry head (both (not (isRange v) && not (eqb (a .count) (b .count))) (pairs ahead) (tableOf head (store (now (nodes .entry)) (now (children .entry)) (now (cuts .entry)))) v (seen (now (children .entry)) (now (cuts .entry)) v a 0) (seen (now (children .entry)) (now (cuts .entry)) v b 0)) r (store (now (nodes .entry)) (now (children .entry)) (now (cuts .entry))) (now (memo .entry)) (store (now (nodes .exit)) (now (children .exit)) (now (cuts .exit))) (now (index .exit)) (now (memo .exit)) ⌝ }
+    requires { ⌜ (Ready Entry used (store (now nodes) (now children) (now cuts)) (now index) (now memo)) × (Sides (tableOf used (store (now nodes) (now children) (now cuts))) (used .edges) (now children) (now cuts) v ahead a b) ⌝ }
+    ensures { λ r. ⌜ Stepped Entry used (both (not (isRange v) && not (eqb (a .count) (b .count))) (pairs ahead) (tableOf used (store (now (nodes .entry)) (now (children .entry)) (now (cuts .entry)))) v (seen (now (children .entry)) (now (cuts .entry)) v a 0) (seen (now (children .entry)) (now (cuts .entry)) v b 0)) r (store (now (nodes .entry)) (now (children .entry)) (now (cuts .entry))) (now (memo .entry)) (store (now (nodes .exit)) (now (children .exit)) (now (cuts .exit))) (now (index .exit)) (now (memo .exit)) ⌝ }
 {
     if v < FIRST_BOOLEAN {
-        return apply_ranges(nodes, children, cuts, index, memo, head, a, b, v, ahead);
+        return apply_ranges(nodes, children, cuts, index, memo, used, a, b, v, ahead);
     }
     let back = a.count != b.count;
     let x = child(children, a, edge_of(a.count, back));
     let y = child(children, b, edge_of(b.count, back));
-    let m = conjoin(nodes, children, cuts, index, memo, head, x, y, ahead);
+    let m = conjoin(nodes, children, cuts, index, memo, used, x, y, ahead);
     if !m.ok {
         return m;
     }
     let one = m.id;
-    let now = m.head;
+    let now = m.used;
     let x = child(children, a, edge_of(a.count, !back));
     let y = child(children, b, edge_of(b.count, !back));
     let m = conjoin(nodes, children, cuts, index, memo, now, x, y, ahead);
@@ -106,7 +106,7 @@ fn apply(
         return m;
     }
     let two = m.id;
-    let now = m.head;
+    let now = m.used;
     let high = first_unless(back, one, two);
     let low = first_unless(back, two, one);
     create_pair(nodes, children, cuts, index, now, v, high, low)
@@ -129,17 +129,17 @@ fn apply_ranges(
     cuts: &mut [i64],
     index: &mut [u32],
     memo: &mut [u32],
-    head: Head,
+    used: Used,
     a: View,
     b: View,
     v: usize,
     ahead: usize,
 ) -> Made
-    requires { ⌜ (Ready Entry head (store (now nodes) (now children) (now cuts)) (now index) (now memo)) × (Sides (tableOf head (store (now nodes) (now children) (now cuts))) (head .edges) (now children) (now cuts) v ahead a b) × (v < firstBoolean) ⌝ }
-    ensures { λ r. ⌜ Stepped Entry head (both false (pairs ahead) (tableOf head (store (now (nodes .entry)) (now (children .entry)) (now (cuts .entry)))) v (seen (now (children .entry)) (now (cuts .entry)) v a 0) (seen (now (children .entry)) (now (cuts .entry)) v b 0)) r (store (now (nodes .entry)) (now (children .entry)) (now (cuts .entry))) (now (memo .entry)) (store (now (nodes .exit)) (now (children .exit)) (now (cuts .exit))) (now (index .exit)) (now (memo .exit)) ⌝ }
+    requires { ⌜ (Ready Entry used (store (now nodes) (now children) (now cuts)) (now index) (now memo)) × (Sides (tableOf used (store (now nodes) (now children) (now cuts))) (used .edges) (now children) (now cuts) v ahead a b) × (v < firstBoolean) ⌝ }
+    ensures { λ r. ⌜ Stepped Entry used (both false (pairs ahead) (tableOf used (store (now (nodes .entry)) (now (children .entry)) (now (cuts .entry)))) v (seen (now (children .entry)) (now (cuts .entry)) v a 0) (seen (now (children .entry)) (now (cuts .entry)) v b 0)) r (store (now (nodes .entry)) (now (children .entry)) (now (cuts .entry))) (now (memo .entry)) (store (now (nodes .exit)) (now (children .exit)) (now (cuts .exit))) (now (index .exit)) (now (memo .exit)) ⌝ }
 {
     let mut out = Edges::new();
-    let mut now = head;
+    let mut now = used;
     let mut last = NodeId::FALSE;
     let mut len = 0;
     let mut i = 0;
@@ -160,7 +160,7 @@ fn apply_ranges(
             child: id,
             spare: 0,
         };
-        now = m.head;
+        now = m.used;
         last = id;
         len = n + 1;
         i += s.left;
@@ -172,7 +172,7 @@ fn apply_ranges(
         return Made {
             ok: false,
             id: NodeId::FALSE,
-            head: now,
+            used: now,
         };
     }
     out.len = len;

@@ -16,7 +16,7 @@ use Rattle.algebra.specs.Conditions.{from-range, comparison, from-bool}
 use Rattle.table.specs.Deciding.{Decides}
 use Rattle.table.specs.Told.{done, Checks, checked-1, checked-2, checked-0}
 use Rattle.table.proofs.Laws.{proved, refuted}
-use Rattle.making.specs.declared.nodes.Head.{Head}
+use Rattle.making.specs.declared.nodes.Used.{Used}
 use Rattle.making.specs.declared.nodes.Made.{Made}
 use Rattle.making.specs.Outcome.{Lent, Outcome, Untouched, tableOf}
 use Rattle.kernel.specs.Makes.{wrongVariable, noRoom, made-4, Conditions}
@@ -38,22 +38,22 @@ module _ {st : Store} {index : List ℕ} where
   admits-it c q e = rw e (admitted _ (check-lends c q))
 
   -- what a condition may work on
-  pub admitted-lent : {kind : Type 0} {b : Bool} {k : ℕ} {h : Head} → Decides kind b → Admits st index b k h → k ≡ done → Lent h st index × kind
+  pub admitted-lent : {kind : Type 0} {b : Bool} {k : ℕ} {h : Used} → Decides kind b → Admits st index b k h → k ≡ done → Lent h st index × kind
   admitted-lent d (not-lent b h c n) q = absurd (n q)
   admitted-lent d (not-kind h l) q = absurd (omega arith)
   admitted-lent d (admitted h l) q = (l, proved d refl)
 
 module _ (kind : Type 0) (want : Table → Table × ℕ) (st : Store) (index : List ℕ) where
   -- rows 1, 2 and 4
-  pub condition-refused : {b : Bool} {k n id : ℕ} {h : Head} → Decides kind b → Admits st index b k h → (k ≡ done → ⊥) → (n ≡ k) × (id ≡ FALSE)
+  pub condition-refused : {b : Bool} {k n id : ℕ} {h : Used} → Decides kind b → Admits st index b k h → (k ≡ done → ⊥) → (n ≡ k) × (id ≡ FALSE)
       → Conditions st index kind want n id st index
   condition-refused d (not-lent b h c f) x q = rw (q .0, q .1) (check-refuses _ _ kind want st index [] (λ a. a) (λ a. a) c f)
-  condition-refused d (not-kind h l) x q = rw (q .0, q .1) (made-4 (l .allowed) (h .used) (l .sound) tt (refuted d refl))
+  condition-refused d (not-kind h l) x q = rw (q .0, q .1) (made-4 (l .allowed) (h .nodes) (l .sound) tt (refuted d refl))
   condition-refused d (admitted h l) x q = absurd (x refl)
 
   -- rows 6 and 0, from what was made
   module _ {st′ : Store} {index′ : List ℕ} where
-    pub condition-answered : {h : Head} {made : Table × ℕ} {r : Made} {n id : ℕ} → Lent h st index × kind
+    pub condition-answered : {h : Used} {made : Table × ℕ} {r : Made} {n id : ℕ} → Lent h st index × kind
         → Outcome h made r st st′ index′ × (r .ok ≡ false → Untouched st index st′ index′)
         → made ≡ want (tableOf h st) → (n ≡ cond (r .ok) done noRoom) × (id ≡ cond (r .ok) (r .id .0) FALSE)
         → Conditions st index kind want n id st′ index′

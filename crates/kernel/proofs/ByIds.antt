@@ -15,7 +15,7 @@ use Rattle.table.specs.Layout.{room, Store}
 use Rattle.table.specs.Deciding.{Decides}
 use Rattle.table.specs.Told.{done}
 use Rattle.table.proofs.Laws.{proved, refuted}
-use Rattle.making.specs.declared.nodes.Head.{Head}
+use Rattle.making.specs.declared.nodes.Used.{Used}
 use Rattle.making.specs.declared.nodes.Made.{Made}
 use Rattle.making.specs.Outcome.{Lent, tableOf}
 use Rattle.walks.specs.Walking.{Worked}
@@ -25,20 +25,20 @@ use Rattle.kernel.proofs.Handing.{check-refuses, outcome-told}
 
 module _ {st : Store} {index : List ℕ} {n x y : ℕ} {kind : Bool} (long : n ≡ room (st .nodes) * 3) where
   -- the table is refused
-  pub ids-refuse-table : {h : Head} {k : ℕ} → Admits st index true k h → (k ≡ done → ⊥) → AdmitsIds st index n x y kind k h
+  pub ids-refuse-table : {h : Used} {k : ℕ} → Admits st index true k h → (k ≡ done → ⊥) → AdmitsIds st index n x y kind k h
   ids-refuse-table (not-lent b h c f) g = ids-not-lent kind h long c f
   ids-refuse-table (admitted h l) g = absurd (g refl)
 
   -- it is lent, and the variable decides
-  pub ids-refuse-kind : {h : Head} → Lent h st index → BothKnown x y (h .used) → kind ≡ false → AdmitsIds st index n x y kind wrongVariable h
+  pub ids-refuse-kind : {h : Used} → Lent h st index → BothKnown x y (h .nodes) → kind ≡ false → AdmitsIds st index n x y kind wrongVariable h
   ids-refuse-kind {h} l b e = rw e (ids-not-kind h long l b)
 
-  pub ids-admit : {h : Head} → Lent h st index → BothKnown x y (h .used) → kind ≡ true → AdmitsIds st index n x y kind done h
+  pub ids-admit : {h : Used} → Lent h st index → BothKnown x y (h .nodes) → kind ≡ true → AdmitsIds st index n x y kind done h
   ids-admit {h} l b e = rw e (ids-admitted h long l b)
 
 -- what a call may work on
-pub ids-lent : {kind : Type 0} {st : Store} {index : List ℕ} {n x y : ℕ} {b : Bool} {k : ℕ} {h : Head} → Decides kind b → AdmitsIds st index n x y b k h → k ≡ done
-    → Lent h st index × (n ≡ room (st .nodes) * 3) × BothKnown x y (h .used) × kind
+pub ids-lent : {kind : Type 0} {st : Store} {index : List ℕ} {n x y : ℕ} {b : Bool} {k : ℕ} {h : Used} → Decides kind b → AdmitsIds st index n x y b k h → k ≡ done
+    → Lent h st index × (n ≡ room (st .nodes) * 3) × BothKnown x y (h .nodes) × kind
 ids-lent d (ids-not-long b h f) g = absurd (omega arith)
 ids-lent d (ids-not-lent b h e c f) g = absurd (f g)
 ids-lent d (ids-not-known b h e l f) g = absurd (omega arith)
@@ -49,20 +49,20 @@ ids-lent d (ids-admitted h e l a) g = (l, e, a, proved d refl)
 module _ (known : ℕ → Type 0) (kind : Type 0) (want : Table → Table × ℕ) (st : Store) (index memo : List ℕ) (x y : ℕ)
     (to : (u : ℕ) → BothKnown x y u → known u) (back : (u : ℕ) → known u → BothKnown x y u) where
   -- rows 1 to 4
-  pub ids-refused : {b : Bool} {k n id : ℕ} {h : Head} → Decides kind b → AdmitsIds st index (length memo) x y b k h → (k ≡ done → ⊥) → (n ≡ k) × (id ≡ FALSE) → WithMemo st index memo known kind want n id st index memo
+  pub ids-refused : {b : Bool} {k n id : ℕ} {h : Used} → Decides kind b → AdmitsIds st index (length memo) x y b k h → (k ≡ done → ⊥) → (n ≡ k) × (id ≡ FALSE) → WithMemo st index memo known kind want n id st index memo
   ids-refused d (ids-not-long b h f) g q = rw (q .0, q .1) (made-1 (λ l. f (l .1)))
   ids-refused d (ids-not-lent b h e c f) g q = rw (q .0, q .1) (check-refuses _ known kind want st index memo (λ a. (a, e)) (λ l. l .0) c f)
-  ids-refused d (ids-not-known b h e l f) g q = rw (q .0, q .1) (made-3 (l .allowed, e) (h .used) (l .sound) (λ a. f (back (h .used) a)))
-  ids-refused d (ids-not-kind h e l a) g q = rw (q .0, q .1) (made-4 (l .allowed, e) (h .used) (l .sound) (to (h .used) a) (refuted d refl))
+  ids-refused d (ids-not-known b h e l f) g q = rw (q .0, q .1) (made-3 (l .allowed, e) (h .nodes) (l .sound) (λ a. f (back (h .nodes) a)))
+  ids-refused d (ids-not-kind h e l a) g q = rw (q .0, q .1) (made-4 (l .allowed, e) (h .nodes) (l .sound) (to (h .nodes) a) (refuted d refl))
   ids-refused d (ids-admitted h e l a) g q = absurd (g refl)
 
   -- rows 6 and 0, from what the operation leaves
-  pub ids-answered : {b : Bool} {k n id : ℕ} {h : Head} {made : Table × ℕ} {r : Made} {st′ : Store} {index′ memo′ : List ℕ} → Decides kind b
+  pub ids-answered : {b : Bool} {k n id : ℕ} {h : Used} {made : Table × ℕ} {r : Made} {st′ : Store} {index′ memo′ : List ℕ} → Decides kind b
       → AdmitsIds st index (length memo) x y b k h → k ≡ done → Worked h made r st index memo st′ index′ memo′ → made ≡ want (tableOf h st)
       → (n ≡ cond (r .ok) done noRoom) × (id ≡ cond (r .ok) (r .id .0) FALSE) → WithMemo st index memo known kind want n id st′ index′ memo′
   ids-answered {h = h} d a g w e q =
       let l = ids-lent d a g in
-      outcome-told _ known kind want st index memo (l .0 .allowed, l .1) (l .0) (to (h .used) (l .2)) (l .3) (w .outcome) (w .untouched) (w .zeroed) e q
+      outcome-told _ known kind want st index memo (l .0 .allowed, l .1) (l .0) (to (h .nodes) (l .2)) (l .3) (w .outcome) (w .untouched) (w .zeroed) e q
 
 -- The code hands a variable on as a wide number.
 pub same-restrict : (t : Table) {w v : ℕ} (value : Bool) (id : ℕ) → w ≡ v → restrict t w value id ≡ restrict t v value id

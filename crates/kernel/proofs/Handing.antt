@@ -13,7 +13,7 @@ use Rattle.table.specs.Layout.{room, Store}
 use Rattle.table.specs.Lent.{SoundLent}
 use Rattle.table.specs.Held.{held}
 use Rattle.table.specs.Told.{done, Allowed, Checks, checked-1, checked-2, checked-0}
-use Rattle.making.specs.declared.nodes.Head.{Head}
+use Rattle.making.specs.declared.nodes.Used.{Used}
 use Rattle.making.specs.declared.nodes.Made.{Made}
 use Rattle.making.specs.Outcome.{Lent, Outcome, Untouched, tableOf}
 use Rattle.making.proofs.Taken.{cuts-as-long, index-as-long}
@@ -46,7 +46,7 @@ module _ (lent : Type 0) (known : ℕ → Type 0) (kind : Type 0) (want : Table 
     done-it h e z = rw (e, z) (made-0 l u s a v _ _ _ _ h)
 
   -- both, from what was made
-  module _ {h : Head} {made : Table × ℕ} {r : Made} {st′ : Store} {index′ memo′ : List ℕ} (l : lent) (t : Lent h st index) (a : known (h .used)) (v : kind)
+  module _ {h : Used} {made : Table × ℕ} {r : Made} {st′ : Store} {index′ memo′ : List ℕ} (l : lent) (t : Lent h st index) (a : known (h .nodes)) (v : kind)
       (o : Outcome h made r st st′ index′) (u : r .ok ≡ false → Untouched st index st′ index′) (z : memo′ ≡ replicate (length memo) 0)
       (e : made ≡ want (tableOf h st)) where
     pub outcome-told : {n id : ℕ} → (n ≡ cond (r .ok) done noRoom) × (id ≡ cond (r .ok) (r .id .0) FALSE) → Makes lent known kind want st index memo n id st′ index′ memo′
@@ -54,7 +54,7 @@ module _ (lent : Type 0) (known : ℕ → Type 0) (kind : Type 0) (want : Table 
       where
         go : (b : Bool) → r .ok ≡ b → (n ≡ cond b done noRoom) × (id ≡ cond b (r .id .0) FALSE) → Makes lent known kind want st index memo n id st′ index′ memo′
         go true y q =
-            let x = leaves-it st index st′ index′ (r .head .used) (t .allowed) (o .lent .allowed) (o .stays .long) (o .stays .wide) (o .lent .sound) (o .table y ∙ ap (λ (w : Table × ℕ). w .0) e) in
+            let x = leaves-it st index st′ index′ (r .used .nodes) (t .allowed) (o .lent .allowed) (o .stays .long) (o .stays .wide) (o .lent .sound) (o .table y ∙ ap (λ (w : Table × ℕ). w .0) e) in
             rw (q .0) (done-it l (t .sound) a v x (q .1 ∙ (o .id y ∙ ap (λ (w : Table × ℕ). w .1) e)) z)
         go false y q =
             let w = u y in

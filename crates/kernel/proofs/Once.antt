@@ -39,7 +39,7 @@ module _ (lent : Type 0) (known : ℕ → Type 0) (kind : Type 0) (want : Table 
   same-done : {u u′ : ℕ} {n n′ c c′ i i′ : List ℕ} {t t′ : List ℤ} → u ≡ u′ → Leaves ((wanted u) .0) st index n c t i → Leaves ((wanted u′) .0) st index n′ c′ t′ i′
       → (n ≡ n′) × (c ≡ c′) × (t ≡ t′) × (i ≡ i′)
   same-done {n = n} {n′} {c} {c′} {i} {i′} {t} {t′} e h h′ =
-      let w = same-table-same-words n c t i n′ c′ t′ i′ (h .used) (h′ .used) (h .long ∙ sym (h′ .long)) (h .wide ∙ sym (h′ .wide)) (h .deep ∙ sym (h′ .deep)) (h .indexed ∙ sym (h′ .indexed))
+      let w = same-table-same-words n c t i n′ c′ t′ i′ (h .nodes) (h′ .nodes) (h .long ∙ sym (h′ .long)) (h .wide ∙ sym (h′ .wide)) (h .deep ∙ sym (h′ .deep)) (h .indexed ∙ sym (h′ .indexed))
       (h .sound) (h′ .sound) (h .holds ∙ ap (λ (m : ℕ). (wanted m) .0) e ∙ sym (h′ .holds)) in
       (w .each-node, w .each-kid, w .each-cut, w .each-word)
 

@@ -54,7 +54,7 @@ module _ (lent : Type 0) (known : ℕ → Type 0) (kind : Type 0) (want : Table 
   answered (made-3 l u s f) e = absurd (omega arith)
   answered (made-4 l u s a f) e = absurd (omega arith)
   answered (made-6 l u s a v f) e = absurd (omega arith)
-  answered (made-0 l u s a v _ _ _ _ h) e = record { before = u; found = s; after = h .used; left = h .sound; answers = rw (h .holds) (right-here u s a v) }
+  answered (made-0 l u s a v _ _ _ _ h) e = record { before = u; found = s; after = h .nodes; left = h .sound; answers = rw (h .holds) (right-here u s a v) }
 
   -- Numbers 0 and 6: where the checks 1 to 4 pass, a call is done when there is room for the answer, and says 6 when there is none.
   pub done-or-no-room : {k id : ℕ} {n c i z : List ℕ} {t : List ℤ} → Out k id n c t i z → lent → (u : ℕ) → SoundLent st index u → known u → kind

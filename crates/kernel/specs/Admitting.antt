@@ -6,21 +6,21 @@ use Prim.Native.Nat.{ℕ, _*_}
 use lib.IntN.{ℤ}
 use Rattle.table.specs.Layout.{room, Store}
 use Rattle.table.specs.Told.{done, wrongRoom, unknownId, Checks}
-use Rattle.making.specs.declared.nodes.Head.{Head}
+use Rattle.making.specs.declared.nodes.Used.{Used}
 use Rattle.making.specs.Outcome.{Lent}
 use Rattle.kernel.specs.Makes.{wrongVariable, BothKnown}
 
 -- In the order of the checks: a refusal by the check of the table, a variable that is not of the kind that is asked, or a table to work on.
-pub data Admits (st : Store) (index : List ℕ) : Bool → ℕ → Head → Type 0 where
-  not-lent : (kind : Bool) (h : Head) {k u e : ℕ} → Checks st index k u e → (k ≡ done → ⊥) → Admits st index kind k h
-  not-kind : (h : Head) → Lent h st index → Admits st index false wrongVariable h
-  admitted : (h : Head) → Lent h st index → Admits st index true done h
+pub data Admits (st : Store) (index : List ℕ) : Bool → ℕ → Used → Type 0 where
+  not-lent : (kind : Bool) (h : Used) {k u e : ℕ} → Checks st index k u e → (k ≡ done → ⊥) → Admits st index kind k h
+  not-kind : (h : Used) → Lent h st index → Admits st index false wrongVariable h
+  admitted : (h : Used) → Lent h st index → Admits st index true done h
 
 -- The same for a call that is given two ids, or one id twice, and is lent a memo of n words: its length is not the one for the room, a refusal
 -- by the check of the table, an id that is not known, a variable that is not of the kind that is asked, or a table to work on.
-pub data AdmitsIds (st : Store) (index : List ℕ) (n x y : ℕ) : Bool → ℕ → Head → Type 0 where
-  ids-not-long : (kind : Bool) (h : Head) → (n ≡ room (st .nodes) * 3 → ⊥) → AdmitsIds st index n x y kind wrongRoom h
-  ids-not-lent : (kind : Bool) (h : Head) {k u e : ℕ} → n ≡ room (st .nodes) * 3 → Checks st index k u e → (k ≡ done → ⊥) → AdmitsIds st index n x y kind k h
-  ids-not-known : (kind : Bool) (h : Head) → n ≡ room (st .nodes) * 3 → Lent h st index → (BothKnown x y (h .used) → ⊥) → AdmitsIds st index n x y kind unknownId h
-  ids-not-kind : (h : Head) → n ≡ room (st .nodes) * 3 → Lent h st index → BothKnown x y (h .used) → AdmitsIds st index n x y false wrongVariable h
-  ids-admitted : (h : Head) → n ≡ room (st .nodes) * 3 → Lent h st index → BothKnown x y (h .used) → AdmitsIds st index n x y true done h
+pub data AdmitsIds (st : Store) (index : List ℕ) (n x y : ℕ) : Bool → ℕ → Used → Type 0 where
+  ids-not-long : (kind : Bool) (h : Used) → (n ≡ room (st .nodes) * 3 → ⊥) → AdmitsIds st index n x y kind wrongRoom h
+  ids-not-lent : (kind : Bool) (h : Used) {k u e : ℕ} → n ≡ room (st .nodes) * 3 → Checks st index k u e → (k ≡ done → ⊥) → AdmitsIds st index n x y kind k h
+  ids-not-known : (kind : Bool) (h : Used) → n ≡ room (st .nodes) * 3 → Lent h st index → (BothKnown x y (h .nodes) → ⊥) → AdmitsIds st index n x y kind unknownId h
+  ids-not-kind : (h : Used) → n ≡ room (st .nodes) * 3 → Lent h st index → BothKnown x y (h .nodes) → AdmitsIds st index n x y false wrongVariable h
+  ids-admitted : (h : Used) → n ≡ room (st .nodes) * 3 → Lent h st index → BothKnown x y (h .nodes) → AdmitsIds st index n x y true done h

@@ -7,7 +7,7 @@ ghost use Rattle.kernel.specs.Admitting.{Admits, AdmitsIds};
 ghost use Rattle.table.specs.Layout.{store};
 use super::answers::WRONG_VARIABLE;
 use ids::NodeId;
-use making::nodes::Head;
+use making::nodes::Used;
 use table::calls::check;
 use table::limits::FIRST_BOOLEAN;
 use table::limits::MEMO_WORDS;
@@ -21,31 +21,31 @@ use table::words::wide;
 // A number, and beside 0 how much of the table is used.
 pub struct Admission {
     pub number: u32,
-    pub head: Head,
+    pub used: Used,
 }
 
 // Refusals 1, 2 and 4, for a call that asks a kind of variable: `kind` says whether the one it is given is of that kind.
 pub fn admit(nodes: &[u32], children: &[u32], cuts: &[i64], index: &[u32], kind: bool) -> Admission
-    ensures { λ r. ⌜ Admits (store (now (nodes .entry)) (now (children .entry)) (now (cuts .entry))) (now (index .entry)) kind (r .number) (r .head) ⌝ }
+    ensures { λ r. ⌜ Admits (store (now (nodes .entry)) (now (children .entry)) (now (cuts .entry))) (now (index .entry)) kind (r .number) (r .used) ⌝ }
 {
     let c = check(nodes, children, cuts, index);
-    let head = Head {
-        used: c.nodes,
+    let used = Used {
+        nodes: c.nodes,
         edges: c.edges,
     };
     if c.number != DONE {
         return Admission {
             number: c.number,
-            head,
+            used,
         };
     }
     if !kind {
         return Admission {
             number: WRONG_VARIABLE,
-            head,
+            used,
         };
     }
-    Admission { number: DONE, head }
+    Admission { number: DONE, used }
 }
 
 // Refusals 1 to 4, for a call that is given two ids, or one id twice, and is lent a memo of `memo` words. The kind comes after the ids; a
@@ -60,32 +60,32 @@ pub fn admit_ids(
     y: NodeId,
     kind: bool,
 ) -> Admission
-    ensures { λ r. ⌜ AdmitsIds (store (now (nodes .entry)) (now (children .entry)) (now (cuts .entry))) (now (index .entry)) memo (x .0) (y .0) kind (r .number) (r .head) ⌝ }
+    ensures { λ r. ⌜ AdmitsIds (store (now (nodes .entry)) (now (children .entry)) (now (cuts .entry))) (now (index .entry)) memo (x .0) (y .0) kind (r .number) (r .used) ⌝ }
 {
     if memo != nodes.len() / RECORD_WORDS * MEMO_WORDS {
         return Admission {
             number: WRONG_ROOM,
-            head: Head { used: 0, edges: 0 },
+            used: Used { nodes: 0, edges: 0 },
         };
     }
     let a = admit(nodes, children, cuts, index, true);
     if a.number != DONE {
         return a;
     }
-    let head = a.head;
-    if !both_known(head.used, x, y) {
+    let used = a.used;
+    if !both_known(used.nodes, x, y) {
         return Admission {
             number: UNKNOWN_ID,
-            head,
+            used,
         };
     }
     if !kind {
         return Admission {
             number: WRONG_VARIABLE,
-            head,
+            used,
         };
     }
-    Admission { number: DONE, head }
+    Admission { number: DONE, used }
 }
 
 // Whether it is one of the variables 0 to 31.

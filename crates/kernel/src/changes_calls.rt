@@ -34,8 +34,8 @@ pub fn restrict(
     if a.number != DONE {
         return refused(a.number);
     }
-    let head = a.head;
-    answer_of(restriction::restrict(nodes, children, cuts, index, memo, head, id, wide(v), value))
+    let used = a.used;
+    answer_of(restriction::restrict(nodes, children, cuts, index, memo, used, id, wide(v), value))
 }
 
 // "The answer at a place is the old answer at the nearest place inside the bounds".
@@ -57,14 +57,14 @@ pub fn narrow(
     if a.number != DONE {
         return refused(a.number);
     }
-    let head = a.head;
+    let used = a.used;
     answer_of(narrowing::narrow(
         nodes,
         children,
         cuts,
         index,
         memo,
-        head,
+        used,
         id,
         wide(v),
         lower,
@@ -91,14 +91,14 @@ pub fn widen(
     if a.number != DONE {
         return refused(a.number);
     }
-    let head = a.head;
+    let used = a.used;
     answer_of(widening::widen(
         nodes,
         children,
         cuts,
         index,
         memo,
-        head,
+        used,
         id,
         wide(v),
         lower,

@@ -29,8 +29,8 @@ pub fn from_range(
     if a.number != DONE {
         return refused(a.number);
     }
-    let head = a.head;
-    answer_of(conditions::from_range(nodes, children, cuts, index, head, wide(v), lower, upper))
+    let used = a.used;
+    answer_of(conditions::from_range(nodes, children, cuts, index, used, wide(v), lower, upper))
 }
 
 // "Six comparisons with a key: = != < <= > >=".
@@ -49,8 +49,8 @@ pub fn from_comparison(
     if a.number != DONE {
         return refused(a.number);
     }
-    let head = a.head;
-    answer_of(conditions::from_comparison(nodes, children, cuts, index, head, wide(v), op, key))
+    let used = a.used;
+    answer_of(conditions::from_comparison(nodes, children, cuts, index, used, wide(v), op, key))
 }
 
 // A boolean.
@@ -67,6 +67,6 @@ pub fn from_bool(
     if a.number != DONE {
         return refused(a.number);
     }
-    let head = a.head;
-    answer_of(conditions::from_bool(nodes, children, cuts, index, head, wide(v)))
+    let used = a.used;
+    answer_of(conditions::from_bool(nodes, children, cuts, index, used, wide(v)))
 }

@@ -25,8 +25,8 @@ pub fn and(
     if a.number != DONE {
         return refused(a.number);
     }
-    let head = a.head;
-    answer_of(joins::and(nodes, children, cuts, index, memo, head, x, y))
+    let used = a.used;
+    answer_of(joins::and(nodes, children, cuts, index, memo, used, x, y))
 }
 
 // One or both.
@@ -45,6 +45,6 @@ pub fn or(
     if a.number != DONE {
         return refused(a.number);
     }
-    let head = a.head;
-    answer_of(joins::or(nodes, children, cuts, index, memo, head, x, y))
+    let used = a.used;
+    answer_of(joins::or(nodes, children, cuts, index, memo, used, x, y))
 }

@@ -14,11 +14,11 @@ use Rattle.table.specs.Layout.{countAt, kidAt, cutAt, cutPosition, room, start,
 use Rattle.table.specs.Indexed.{bucketAt}
 use Rattle.table.specs.Lent.{Rules, SameRecord, SoundLent}
 use Rattle.table.specs.Held.{nodeAt, held}
-use Rattle.growth.specs.Growing.{MoreWords, MoreIndex, OneMore}
-use Rattle.growth.proofs.Frames.{Agree, start-agrees, node-agrees}
-use Rattle.growth.proofs.Grown.{grown, held-grown, start-grown}
+use Rattle.making.specs.Growing.{MoreWords, MoreIndex, OneMore}
+use Rattle.making.proofs.Frames.{Agree, start-agrees, node-agrees}
+use Rattle.making.proofs.Grown.{grown, held-grown, start-grown}
 use Rattle.making.specs.declared.edges.Edges as built
-use Rattle.making.specs.declared.nodes.Head.{Head}
+use Rattle.making.specs.declared.nodes.Used.{Used}
 use Rattle.making.specs.Building.{childIn, nodeOf, hashIn, Matches}
 use Rattle.making.specs.Storing.{EdgesPut, RecordPut}
 use Rattle.making.specs.Outcome.{Lent, Buildable, Added, tableOf}
@@ -36,12 +36,12 @@ same-matches r x = record {
   cut = λ j l. ap cutPosition (r .edges .cut j (omega (arith, x .count))) ∙ x .cut j l;
 }
 
-module _ {h : Head} {st : Store} {index : List ℕ} (l : Lent h st index) {v lead : ℕ} {es : built.Edges} (b : Buildable (tableOf h st) v es) (many : 2 ≤ es .len)
-    (first : lead ≡ childIn es 0) {bucket : ℕ} (hashed : bucket ≡ hashIn v (sign lead) es (es .len) * room (st .nodes) / 4294967296) (small : bucket < room (st .nodes)) (node-room : h .used < room (st .nodes))
+module _ {h : Used} {st : Store} {index : List ℕ} (l : Lent h st index) {v lead : ℕ} {es : built.Edges} (b : Buildable (tableOf h st) v es) (many : 2 ≤ es .len)
+    (first : lead ≡ childIn es 0) {bucket : ℕ} (hashed : bucket ≡ hashIn v (sign lead) es (es .len) * room (st .nodes) / 4294967296) (small : bucket < room (st .nodes)) (node-room : h .nodes < room (st .nodes))
     (edge-room : h .edges + es .len ≤ length (st .children)) (absent : find (tableOf h st) (nodeOf v (sign lead) es) ≡ 0)
-    {st′ : Store} (q : RecordPut (st .nodes) (h .used) v (es .len) (h .edges) (st′ .nodes)) (p : EdgesPut (st .children) (st .cuts) (h .edges) v (sign lead) es (st′ .children) (st′ .cuts)) where
+    {st′ : Store} (q : RecordPut (st .nodes) (h .nodes) v (es .len) (h .edges) (st′ .nodes)) (p : EdgesPut (st .children) (st .cuts) (h .edges) v (sign lead) es (st′ .children) (st′ .cuts)) where
   abbrev u : ℕ
-  u = h .used
+  u = h .nodes
 
   abbrev e : ℕ
   e = h .edges
@@ -95,7 +95,7 @@ module _ {h : Head} {st : Store} {index : List ℕ} (l : Lent h st index) {v lea
   indexed : MoreIndex (room (st .nodes)) u bucket index index′
   indexed = record {
     broad = simp length-set refl;
-    head = getD-set-same one bucket (u + 1) 0 (simp length-set (omega (arith, within))) ∙ (let a : u + 1 ≡ suc u = omega arith in a);
+    front = getD-set-same one bucket (u + 1) 0 (simp length-set (omega (arith, within))) ∙ (let a : u + 1 ≡ suc u = omega arith in a);
     next = getD-set-other one bucket (room (st .nodes) + u) (u + 1) 0 (λ x. omega arith) ∙ getD-set-same index (room (st .nodes) + u) _ 0 within;
     no-next = l .sound .indexed .no-next (room (st .nodes) + u) (omega arith);
     other = λ i x y. getD-set-other one bucket i (u + 1) 0 x ∙ getD-set-other index (room (st .nodes) + u) i _ 0 y;
@@ -118,7 +118,7 @@ module _ {h : Head} {st : Store} {index : List ℕ} (l : Lent h st index) {v lea
       let x = sym (node-agrees agree (l .sound .records .rules) (omega (arith, l .edges)) m k) ∙ matches-node many (b .reduced) (same-matches r matches) in
       omega (arith, absent, found-record st u (nodeOf v s es) index m (l .sound) k x)
 
-  pub added : Added h (nodeOf v s es) (record { used = u + 1; edges = e + es .len }) st st′ index′
+  pub added : Added h (nodeOf v s es) (record { nodes = u + 1; edges = e + es .len }) st st′ index′
   added =
       let a : suc u ≡ u + 1 = omega arith in
       record {

@@ -5,25 +5,26 @@ use mathlib.Core.List.{List, _∷_}
 use Prim.Native.Nat.{ℕ, zero, suc, _+_, _-_, _*_, _≤_, _<_}
 use native.Mathlib.Omega.{arith}
 use lib.ListN.{length}
-use lib.IntN.{ℤ}
 use Rattle.ids.specs.Id.{sign, under}
 use Rattle.ids.specs.declared.NodeId.{NodeId}
-use Rattle.diagram.specs.Pieces.{run}
-use Rattle.diagram.specs.Table.{Table, Node}
+use Rattle.diagram.specs.Pieces.{run, Each, Reduced}
+use Rattle.diagram.specs.Table.{topOf, Table, Node}
+use Rattle.diagram.specs.Sound.{Child}
 use Rattle.diagram.specs.Cofactor.{map}
 use Rattle.diagram.specs.Room.{Fits}
 use Rattle.algebra.specs.Making.{find, intern, settle, firstSign}
+use Rattle.algebra.specs.Overlay.{merge}
 use Rattle.algebra.proofs.Making.{found}
+use Rattle.algebra.proofs.Overlays.{reduced-merge, each-merge}
 use Rattle.table.specs.Layout.{mostNodes, room, Store}
 use Rattle.table.proofs.Laws.{clash}
 use Rattle.table.proofs.Scan.{table-length}
 use Rattle.table.proofs.Promises.{counts-what-is-held}
 use Rattle.merging.proofs.Fitting.{intern-added, intern-found}
 use Rattle.making.specs.declared.edges.Edges as built
-use Rattle.making.specs.declared.nodes.Head.{Head}
-use Rattle.making.specs.declared.nodes.Made.{Made}
-use Rattle.making.specs.Building.{childIn, cutIn, piecesOf, nodeOf}
-use Rattle.making.specs.Outcome.{Lent, Outcome, Untouched, Added, tableOf}
+use Rattle.making.specs.declared.nodes.Used.{Used}
+use Rattle.making.specs.Building.{Building, childIn, cutIn, piecesOf, nodeOf}
+use Rattle.making.specs.Outcome.{Lent, Creates, Added, Buildable, Mergeable, tableOf}
 use Rattle.making.proofs.Matching.{count-of-node}
 use Rattle.making.proofs.Kept.{stays-here}
 
@@ -44,32 +45,28 @@ id-under n zero h = omega arith
 id-under n (suc zero) h = omega arith
 id-under n (suc (suc s)) h = absurd (omega arith)
 
-module _ {h : Head} {st : Store} {index : List ℕ} (l : Lent h st index) (v : ℕ) (es : built.Edges) where
+module _ {h : Used} {st : Store} {index : List ℕ} (l : Lent h st index) (v : ℕ) (es : built.Edges) where
   abbrev t : Table
   t = tableOf h st
 
-  abbrev s : ℕ
-  s = sign (childIn es 0)
-
   -- Refs are small.
   pub ref-small : (nd : Node) (at : ℕ) → at ≡ find t nd → at ≤ mostNodes
-  ref-small nd at e = omega (arith, found t nd .inside, table-length st (h .used), l .sound .records .fits, l .allowed .most-nodes)
+  ref-small nd at e = omega (arith, found t nd .inside, table-length st (h .nodes), l .sound .records .fits, l .allowed .most-nodes)
 
-  -- What create_node promises.
-  abbrev pub Creates : Made → Store → List ℕ → Type 0
-  Creates r st′ index′ = Outcome h (settle t v (piecesOf es)) r st st′ index′ × (r .ok ≡ false → Untouched st index st′ index′)
+  kept : (id : NodeId) → settle t v (piecesOf es) ≡ (t, id .0) → Creates h (settle t v (piecesOf es)) (record { ok = true; id = id; used = h }) st index st index
+  kept id e = record { outcome = record { lent = l; stays = stays-here; table = λ q. sym (ap (λ (x : Table × ℕ). x .0) e); id = λ q. sym (ap (λ (x : Table × ℕ). x .1) e); full = λ q. absurd (clash q refl) }; untouched = λ q. absurd (clash q refl) }
 
-  kept : (id : NodeId) → settle t v (piecesOf es) ≡ (t, id .0) → Creates (record { ok = true; id = id; head = h }) st index
-  kept id e = (record { lent = l; stays = stays-here; table = λ q. sym (ap (λ (x : Table × ℕ). x .0) e); id = λ q. sym (ap (λ (x : Table × ℕ). x .1) e); full = λ q. absurd (clash q refl) }, λ q. absurd (clash q refl))
-
-  pub dropped : es .len ≡ 1 → (id : NodeId) → id .0 ≡ childIn es 0 → Creates (record { ok = true; id = id; head = h }) st index
+  pub dropped : es .len ≡ 1 → (id : NodeId) → id .0 ≡ childIn es 0 → Creates h (settle t v (piecesOf es)) (record { ok = true; id = id; used = h }) st index st index
   dropped one id e = kept id (settle-run t v (childIn es) (cutIn es) (es .len - 1) (omega arith) ∙ ap (λ (x : ℕ). (t, x)) (sym e))
 
-  module _ (many : 2 ≤ es .len) where
-    as-node : settle t v (piecesOf es) ≡ intern t (nodeOf v s es) s
-    as-node = intern-run t v (childIn es) (cutIn es) (es .len - 1) (omega arith)
+  module _ (many : 2 ≤ es .len) {lead : ℕ} (first : lead ≡ childIn es 0) where
+    abbrev s : ℕ
+    s = sign lead
 
-    pub found-one : (at : ℕ) → 0 < at → at ≡ find t (nodeOf v s es) → (id : NodeId) → id .0 ≡ under s (at * 2) → Creates (record { ok = true; id = id; head = h }) st index
+    as-node : settle t v (piecesOf es) ≡ intern t (nodeOf v s es) s
+    as-node = intern-run t v (childIn es) (cutIn es) (es .len - 1) (omega arith) ∙ ap (λ (x : ℕ). intern t (nodeOf v (sign x) es) (sign x)) (sym first)
+
+    pub found-one : (at : ℕ) → 0 < at → at ≡ find t (nodeOf v s es) → (id : NodeId) → id .0 ≡ under s (at * 2) → Creates h (settle t v (piecesOf es)) (record { ok = true; id = id; used = h }) st index st index
     found-one zero g e id q = absurd (omega arith)
     found-one (suc r) g e id q = kept id (as-node ∙ (intern-found t (nodeOf v s es) s r (sym e) ∙ ap (λ (x : ℕ). (t, x)) (sym (q ∙ id-under (suc r) s (omega arith)))))
 
@@ -77,32 +74,42 @@ module _ {h : Head} {st : Store} {index : List ℕ} (l : Lent h st index) (v : �
       wanted : settle t v (piecesOf es) ≡ (nodeOf v s es ∷ t, 2 * suc (length t) + s)
       wanted = as-node ∙ intern-added t (nodeOf v s es) s absent
 
-      pub no-room : ((h .used < room (st .nodes)) × (h .edges + es .len ≤ length (st .children)) → ⊥) → (id : NodeId) → Creates (record { ok = false; id = id; head = h }) st index
-      no-room g id = (
-        record {
+      pub no-room : ((h .nodes < room (st .nodes)) × (h .edges + es .len ≤ length (st .children)) → ⊥) → (id : NodeId) → Creates h (settle t v (piecesOf es)) (record { ok = false; id = id; used = h }) st index st index
+      no-room g id = record {
+        outcome = record {
           lent = l;
           stays = stays-here;
           table = λ q. absurd (clash refl q);
           id = λ q. absurd (clash refl q);
           full = λ q f. g (over (subst (λ (x : Table × ℕ). Fits (room (st .nodes)) (length (st .children)) (x .0)) wanted f));
-        },
-        λ q. record { nodes-same = refl; children-same = refl; cuts-same = refl; index-same = refl },
-      )
+        };
+        untouched = λ q. record { same = refl; index-same = refl };
+      }
         where
-          over : Fits (room (st .nodes)) (length (st .children)) (nodeOf v s es ∷ t) → (h .used < room (st .nodes)) × (h .edges + es .len ≤ length (st .children))
-          over f = (omega (arith, f .nodesFit, table-length st (h .used)), omega (arith, f .edgesFit, count-of-node v s es (omega arith), counts-what-is-held st index (h .used) (l .sound) .1, l .edges))
+          over : Fits (room (st .nodes)) (length (st .children)) (nodeOf v s es ∷ t) → (h .nodes < room (st .nodes)) × (h .edges + es .len ≤ length (st .children))
+          over f = (omega (arith, f .nodesFit, table-length st (h .nodes)), omega (arith, f .edgesFit, count-of-node v s es (omega arith), counts-what-is-held st index (h .nodes) (l .sound) .1, l .edges))
 
-      pub added-one : {h′ : Head} {st′ : Store} {index′ : List ℕ} → Added h (nodeOf v s es) h′ st st′ index′ → (id : NodeId) → id .0 ≡ under s (h′ .used * 2) → Creates (record { ok = true; id = id; head = h′ }) st′ index′
-      added-one {h′} a id q = (
-        record {
+      pub added-one : {h′ : Used} {st′ : Store} {index′ : List ℕ} → Added h (nodeOf v s es) h′ st st′ index′ → (id : NodeId) → id .0 ≡ under s (h′ .nodes * 2) → Creates h (settle t v (piecesOf es)) (record { ok = true; id = id; used = h′ }) st index st′ index′
+      added-one {h′} a id q = record {
+        outcome = record {
           lent = a .lent;
           stays = a .stays;
           table = λ x. a .table ∙ sym (ap (λ (y : Table × ℕ). y .0) wanted);
-          id = λ x. q ∙ (id-under (h′ .used) s (omega arith) ∙ (same-id ∙ sym (ap (λ (y : Table × ℕ). y .1) wanted)));
+          id = λ x. q ∙ (id-under (h′ .nodes) s (omega arith) ∙ (same-id ∙ sym (ap (λ (y : Table × ℕ). y .1) wanted)));
           full = λ x. absurd (clash x refl);
-        },
-        λ x. absurd (clash x refl),
-      )
+        };
+        untouched = λ x. absurd (clash x refl);
+      }
         where
-          same-id : 2 * h′ .used + s ≡ 2 * suc (length t) + s
-          same-id = let b = a .used in let d = table-length st (h .used) in omega arith
+          same-id : 2 * h′ .nodes + s ≡ 2 * suc (length t) + s
+          same-id = let b = a .used in let d = table-length st (h .nodes) in omega arith
+
+-- Edges that are merged, of edges that could be.
+module _ {t : Table} {v : ℕ} {es : built.Edges} (k : Mergeable t v es) {r : built.Edges} (e : Building r × (piecesOf r ≡ merge (piecesOf es))) where
+  pub merged-builds : Buildable t v r
+  merged-builds = record {
+    building = e .0;
+    known = k .known;
+    reduced = subst (Reduced 0 (topOf v)) (sym (e .1)) (reduced-merge 0 (topOf v) (piecesOf es) (k .rises));
+    kids = subst (Each (Child t (suc v))) (sym (e .1)) (each-merge (Child t (suc v)) (piecesOf es) (k .kids));
+  }

@@ -8,6 +8,10 @@ pub mod Slots
 pub mod Merged
 pub mod Stores
 pub mod Stored
+pub mod Lasts
+pub mod Frames
+pub mod Grown
+pub mod Shrunk
 pub mod Kept
 pub mod Taken
 pub mod Popped

@@ -80,19 +80,19 @@ node-matches {st} {n} {v} {s} {es} r some q = record {
   cut = λ j l. ap (λ (i : ℕ). cutPosition (cutAt (st .cuts) (i + j))) (r .packed) ∙ at-start j l (split v 32) (split (j + 1) (es .len));
 }
   where
-    edges : nodeAt nodes children cuts n .edges ≡ nodeOf v s es .edges
+    edges : nodeAt st n .edges ≡ nodeOf v s es .edges
     edges = ap (λ (x : Node). x .edges) q
 
-    same-var : varAt nodes n ≡ v
+    same-var : varAt (st .nodes) n ≡ v
     same-var = ap (λ (x : Node). x .var) q
 
-    same-count : countAt nodes n ≡ es .len
-    same-count = sym (count-node nodes children cuts n r) ∙ ap count edges ∙ count-of-node v s es some
+    same-count : countAt (st .nodes) n ≡ es .len
+    same-count = sym (count-node st n r) ∙ ap count edges ∙ count-of-node v s es some
 
-    at-start : (j : ℕ) → j < es .len → (v < 32) ⊎ (32 ≤ v) → (j + 1 < es .len) ⊎ (es .len ≤ j + 1) → cutPosition (cutAt cuts (start nodes n + j)) ≡ keyIn v es j
-    at-start j l (inl h) (inl g) = sym (cut-position-node nodes children cuts n r j (omega (arith, same-var)) (omega (arith, same-count))) ∙ ap (λ (e : Pieces ℕ). cut-of e j) edges ∙ cut-of-node v s es j g ∙ sym (key-own v j es h g)
-    at-start j l (inl h) (inr g) = ap cutPosition (no-cut-last nodes children cuts n r j (omega (arith, same-var)) (omega (arith, same-count)) (omega (arith, same-count))) ∙ sym (key-last v j es h g)
-    at-start j l (inr h) g = ap cutPosition (no-cut-bool nodes children cuts n r j (omega (arith, same-var)) (omega (arith, same-count))) ∙ sym (key-bool v j es h)
+    at-start : (j : ℕ) → j < es .len → (v < 32) ⊎ (32 ≤ v) → (j + 1 < es .len) ⊎ (es .len ≤ j + 1) → cutPosition (cutAt (st .cuts) (start (st .nodes) n + j)) ≡ keyIn v es j
+    at-start j l (inl h) (inl g) = sym (cut-position-node st n r j (omega (arith, same-var)) (omega (arith, same-count))) ∙ ap (λ (e : Pieces ℕ). cut-of e j) edges ∙ cut-of-node v s es j g ∙ sym (key-own v j es h g)
+    at-start j l (inl h) (inr g) = ap cutPosition (no-cut-last st n r j (omega (arith, same-var)) (omega (arith, same-count)) (omega (arith, same-count))) ∙ sym (key-last v j es h g)
+    at-start j l (inr h) g = ap cutPosition (no-cut-bool st n r j (omega (arith, same-var)) (omega (arith, same-count))) ∙ sym (key-bool v j es h)
 
 -- the hash of a record that matches, and its bucket
 module _ {st : Store} {n v s : ℕ} {es : built.Edges} (m : Matches st n v s es) where

@@ -12,10 +12,10 @@ use Rattle.table.specs.Indexed.{hashTo, bucketAt}
 use Rattle.table.specs.Lent.{Rules, SoundLent}
 use Rattle.table.proofs.Laws as laws
 use Rattle.table.proofs.Determined.{last-one}
-use Rattle.growth.specs.Growing.{MoreWords, MoreIndex, OneMore}
-use Rattle.growth.proofs.Lasts.{last-new}
-use Rattle.growth.proofs.Shrunk.{shrunk, start-shrunk}
-use Rattle.making.specs.declared.nodes.Head.{Head}
+use Rattle.making.specs.Growing.{MoreWords, MoreIndex, OneMore}
+use Rattle.making.proofs.Lasts.{last-new}
+use Rattle.making.proofs.Shrunk.{shrunk, start-shrunk}
+use Rattle.making.specs.declared.nodes.Used.{Used}
 use Rattle.making.specs.Storing.{EdgesBlank, RecordPut}
 use Rattle.making.specs.Outcome.{Lent, TakenBack}
 use Rattle.making.proofs.Kept.{allowed-same}
@@ -25,7 +25,7 @@ pub bucket-is : (st : Store) (u : ℕ) {v e n h b : ℕ} → v ≡ varAt (st .no
 unfolding bucketAt
 bucket-is st u p q r s t = t ∙ ap (λ (h : ℕ). h * room (st .nodes) / 4294967296) (s ∙ rw (p, q, r))
 
-module _ {h : Head} {st : Store} {index : List ℕ} (l : Lent h st index) (u : ℕ) (last : h .used ≡ suc u) (b e n : ℕ) (bucket : b ≡ bucketAt st u) (small : b < room (st .nodes))
+module _ {h : Used} {st : Store} {index : List ℕ} (l : Lent h st index) (u : ℕ) (last : h .nodes ≡ suc u) (b e n : ℕ) (bucket : b ≡ bucketAt st u) (small : b < room (st .nodes))
     (first : e ≡ firstAt (st .nodes) u) (count : n ≡ countAt (st .nodes) u) {st′ : Store} (q : RecordPut (st .nodes) u 0 0 0 (st′ .nodes)) (p : EdgesBlank (st .children) (st .cuts) e n (st′ .children) (st′ .cuts)) where
   abbrev one : List ℕ
   one = set index b (getD index (room (st .nodes) + u) 0)
@@ -75,7 +75,7 @@ module _ {h : Head} {st : Store} {index : List ℕ} (l : Lent h st index) (u : �
   indexed : MoreIndex (room (st .nodes)) u b index′ index
   indexed = record {
     broad = sym (simp length-set refl);
-    head = last-one (bucketAt st) b (suc u) _ _ (sound .indexed .heads b small) (last-new (sym bucket));
+    front = last-one (bucketAt st) b (suc u) _ _ (sound .indexed .heads b small) (last-new (sym bucket));
     next = sym (getD-set-other one (room (st .nodes) + u) b 0 0 (λ x. omega arith) ∙ getD-set-same index b _ 0 (omega (arith, within)));
     no-next = getD-set-same one (room (st .nodes) + u) 0 0 (simp length-set within);
     other = λ i x y. sym (getD-set-other one (room (st .nodes) + u) i 0 0 y ∙ getD-set-other index b i _ 0 x);
@@ -84,7 +84,7 @@ module _ {h : Head} {st : Store} {index : List ℕ} (l : Lent h st index) (u : �
   more : OneMore u e st′ index′ st index
   more = record { words = words; indexed = subst (λ (r : ℕ). MoreIndex r u (bucketAt st u) index′ index) (sym same-room) (subst (λ (x : ℕ). MoreIndex (room (st .nodes)) u x index′ index) bucket indexed) }
 
-  pub popped : TakenBack u h st (record { used = u; edges = e }) st′ index′
+  pub popped : TakenBack u h st (record { nodes = u; edges = e }) st′ index′
   popped = record {
     lent = record { allowed = allowed-same (l .allowed) (q .long) (p .wide) (p .deep) (simp length-set refl); sound = shrunk sound first more; edges = sym (start-shrunk sound first more) };
     used-is = refl;

@@ -1,4 +1,5 @@
 -- Node making on lent tables: the node under construction, what making leaves, and taking nodes back. Assumes nothing.
 pub mod Building
+pub mod Growing
 pub mod Storing
 pub mod Outcome

@@ -1,23 +1,24 @@
-// Finding a node, adding it, `create_node`, and `create_pair` for a boolean variable.
+// Node making: finding a node, adding it, and the calls that do both.
 ghost use mathlib.Core.Path.{_≡_};
-ghost use mathlib.Core.Bool.{false};
 ghost use Prim.Native.Nat.{ℕ, suc, _+_, _*_, _/_, _<_, _≤_};
 ghost use lib.ListN.{length};
 ghost use Rattle.ids.specs.Id.{sign};
-ghost use Rattle.diagram.specs.Pieces.{last, cut};
 ghost use Rattle.diagram.specs.Table.{variables, firstBoolean};
 ghost use Rattle.diagram.specs.Sound.{Child};
 ghost use Rattle.diagram.specs.Room.{mostEdges};
-ghost use Rattle.algebra.specs.Making.{find as found, settle, create-node};
+ghost use Rattle.algebra.specs.Making.{find as found, settle as settled, create-node};
 ghost use Rattle.table.specs.Deciding.{Decides};
 ghost use Rattle.table.specs.Layout.{mostNodes, mostEdgeRoom, room, store};
-ghost use Rattle.table.specs.Lent.{Rules};
+ghost use Rattle.table.specs.Lent.{Rules, SoundLent};
+ghost use Rattle.table.specs.Held.{held};
+ghost use Rattle.table.specs.Told.{Allowed};
 ghost use Rattle.making.specs.Building.{Building, Matches, childIn, cutIn, nodeOf, hashIn, piecesOf};
 ghost use Rattle.making.specs.Storing.{EdgesPut, RecordPut};
-ghost use Rattle.making.specs.Outcome.{Lent, Outcome, Untouched, Buildable, Added, tableOf};
+ghost use Rattle.making.specs.Outcome.{Lent, Creates, Buildable, Mergeable, Findable, Added, create-pair, tableOf};
 use super::edges::Edges;
 use super::edges::hash_edges;
 use super::edges::key_of;
+use super::edges::merged;
 use super::edges::pair_of;
 use super::edges::stored_cut;
 use ids::NodeId;
@@ -32,8 +33,8 @@ use table::words::wide;
 use table::words::word;
 
 // How much of a lent table is used. Its rooms are the lengths of its slices.
-pub struct Head {
-    pub used: usize,
+pub struct Used {
+    pub nodes: usize,
     pub edges: usize,
 }
 
@@ -41,7 +42,7 @@ pub struct Head {
 pub struct Made {
     pub ok: bool,
     pub id: NodeId,
-    pub head: Head,
+    pub used: Used,
 }
 
 // Whether record n is the node of variable v with these edges, their children seen under the sign of `lead`.
@@ -81,19 +82,18 @@ fn same_node(
 }
 
 // "Find it": one more than the number of the node, or 0 where the table has none. Only nodes of its bucket can be it.
-fn find(
+pub fn find(
     nodes: &[u32],
     children: &[u32],
     cuts: &[i64],
     index: &[u32],
-    head: Head,
     v: usize,
     lead: NodeId,
     es: Edges,
     bucket: usize,
 ) -> usize
-    requires { ⌜ (Lent head (store (now nodes) (now children) (now cuts)) (now index)) × (Buildable (tableOf head (store (now nodes) (now children) (now cuts))) v es) × (2 ≤ es .len) × (bucket ≡ hashIn v (sign (lead .0)) es (es .len) * room (now nodes) / 4294967296) × (bucket < room (now nodes)) ⌝ }
-    ensures { λ r. ⌜ r ≡ found (tableOf head (store (now (nodes .entry)) (now (children .entry)) (now (cuts .entry)))) (nodeOf v (sign (lead .0)) es) ⌝ }
+    requires { ⌜ (Allowed (store (now nodes) (now children) (now cuts)) (now index)) × (Findable (store (now nodes) (now children) (now cuts)) (now index) v es) × (2 ≤ es .len) × (bucket ≡ hashIn v (sign (lead .0)) es (es .len) * room (now nodes) / 4294967296) × (bucket < room (now nodes)) ⌝ }
+    ensures { λ r. ⌜ ((u : ℕ) → SoundLent (store (now (nodes .entry)) (now (children .entry)) (now (cuts .entry))) (now (index .entry)) u → r ≡ found (held (store (now (nodes .entry)) (now (children .entry)) (now (cuts .entry))) u) (nodeOf v (sign (lead .0)) es)) ⌝ }
 {
     let rooms = nodes.len() / RECORD_WORDS;
     let mut at = word(index, bucket);
@@ -139,106 +139,143 @@ fn add(
     children: &mut [u32],
     cuts: &mut [i64],
     index: &mut [u32],
-    head: Head,
+    used: Used,
     v: usize,
     lead: NodeId,
     es: Edges,
     bucket: usize,
-) -> Head
-    requires { ⌜ (Lent head (store (now nodes) (now children) (now cuts)) (now index)) × (Buildable (tableOf head (store (now nodes) (now children) (now cuts))) v es) × (2 ≤ es .len) × (lead .0 ≡ childIn es 0) × (bucket ≡ hashIn v (sign (lead .0)) es (es .len) * room (now nodes) / 4294967296) × (bucket < room (now nodes)) × (head .used < room (now nodes)) × (head .edges + es .len ≤ length (now children)) × (found (tableOf head (store (now nodes) (now children) (now cuts))) (nodeOf v (sign (lead .0)) es) ≡ 0) ⌝ }
-    ensures { λ r. ⌜ Added head (nodeOf v (sign (lead .0)) es) r (store (now (nodes .entry)) (now (children .entry)) (now (cuts .entry))) (store (now (nodes .exit)) (now (children .exit)) (now (cuts .exit))) (now (index .exit)) ⌝ }
+) -> Used
+    requires { ⌜ (Lent used (store (now nodes) (now children) (now cuts)) (now index)) × (Buildable (tableOf used (store (now nodes) (now children) (now cuts))) v es) × (2 ≤ es .len) × (lead .0 ≡ childIn es 0) × (bucket ≡ hashIn v (sign (lead .0)) es (es .len) * room (now nodes) / 4294967296) × (bucket < room (now nodes)) × (used .nodes < room (now nodes)) × (used .edges + es .len ≤ length (now children)) × (found (tableOf used (store (now nodes) (now children) (now cuts))) (nodeOf v (sign (lead .0)) es) ≡ 0) ⌝ }
+    ensures { λ r. ⌜ Added used (nodeOf v (sign (lead .0)) es) r (store (now (nodes .entry)) (now (children .entry)) (now (cuts .entry))) (store (now (nodes .exit)) (now (children .exit)) (now (cuts .exit))) (now (index .exit)) ⌝ }
 {
     let rooms = nodes.len() / RECORD_WORDS;
-    let n = head.used;
-    let e = head.edges;
+    let n = used.nodes;
+    let e = used.edges;
     let count = es.len;
     let before = index[bucket];
     put_edges(children, cuts, e, v, lead, es);
     put_record(nodes, n, v as u32, count as u32, e as u32);
     index[rooms + n] = before;
     index[bucket] = n as u32 + 1;
-    Head {
-        used: n + 1,
+    Used {
+        nodes: n + 1,
         edges: e + count,
     }
 }
 
 // Whether there is room for one node more, with `count` edges.
-fn has_room(rooms: usize, span: usize, head: Head, count: usize) -> bool
-    requires { ⌜ (head .used ≤ rooms) × (rooms ≤ mostNodes) × (head .edges ≤ span) × (span ≤ mostEdgeRoom) × (count ≤ mostEdges) ⌝ }
-    ensures { λ r. ⌜ Decides ((head .used < rooms) × (head .edges + count ≤ span)) r ⌝ }
+fn has_room(rooms: usize, span: usize, used: Used, count: usize) -> bool
+    requires { ⌜ (used .nodes ≤ rooms) × (rooms ≤ mostNodes) × (used .edges ≤ span) × (span ≤ mostEdgeRoom) × (count ≤ mostEdges) ⌝ }
+    ensures { λ r. ⌜ Decides ((used .nodes < rooms) × (used .edges + count ≤ span)) r ⌝ }
 {
-    if rooms < head.used + 1 {
+    if rooms < used.nodes + 1 {
         return false;
     }
-    if span < head.edges + count {
+    if span < used.edges + count {
         return false;
     }
     true
 }
 
-// The id of variable v over these edges: "drop the node if all children agree, else find it or add it as the next number", under the sign
-// that makes the first child plain. Where there is no room for it, nothing is written.
-pub fn create_node(
+// "Or add it as the next number", where there is room for it: a node that is not in the table yet.
+pub fn extend(
     nodes: &mut [u32],
     children: &mut [u32],
     cuts: &mut [i64],
     index: &mut [u32],
-    head: Head,
+    used: Used,
+    v: usize,
+    lead: NodeId,
+    es: Edges,
+    bucket: usize,
+) -> Made
+    requires { ⌜ (Lent used (store (now nodes) (now children) (now cuts)) (now index)) × (Buildable (tableOf used (store (now nodes) (now children) (now cuts))) v es) × (2 ≤ es .len) × (lead .0 ≡ childIn es 0) × (bucket ≡ hashIn v (sign (lead .0)) es (es .len) * room (now nodes) / 4294967296) × (bucket < room (now nodes)) × (found (tableOf used (store (now nodes) (now children) (now cuts))) (nodeOf v (sign (lead .0)) es) ≡ 0) ⌝ }
+    ensures { λ r. ⌜ Creates used (settled (tableOf used (store (now (nodes .entry)) (now (children .entry)) (now (cuts .entry)))) v (piecesOf es)) r (store (now (nodes .entry)) (now (children .entry)) (now (cuts .entry))) (now (index .entry)) (store (now (nodes .exit)) (now (children .exit)) (now (cuts .exit))) (now (index .exit)) ⌝ }
+{
+    if !has_room(nodes.len() / RECORD_WORDS, children.len(), used, es.len) {
+        return Made {
+            ok: false,
+            id: NodeId::FALSE,
+            used,
+        };
+    }
+    let next = add(nodes, children, cuts, index, used, v, lead, es, bucket);
+    Made {
+        ok: true,
+        id: NodeId(next.nodes as u32 * 2).negate(lead),
+        used: next,
+    }
+}
+
+// The id of variable v over merged edges: "drop the node if all children agree, else find it or add it as the next number". Where there is
+// no room for it, nothing is written.
+pub fn settle(
+    nodes: &mut [u32],
+    children: &mut [u32],
+    cuts: &mut [i64],
+    index: &mut [u32],
+    used: Used,
     v: usize,
     es: Edges,
 ) -> Made
-    requires { ⌜ (Lent head (store (now nodes) (now children) (now cuts)) (now index)) × (Buildable (tableOf head (store (now nodes) (now children) (now cuts))) v es) ⌝ }
-    ensures { λ r. ⌜ (Outcome head (settle (tableOf head (store (now (nodes .entry)) (now (children .entry)) (now (cuts .entry)))) v (piecesOf es)) r (store (now (nodes .entry)) (now (children .entry)) (now (cuts .entry))) (store (now (nodes .exit)) (now (children .exit)) (now (cuts .exit))) (now (index .exit))) × (r .ok ≡ false → Untouched (store (now (nodes .entry)) (now (children .entry)) (now (cuts .entry))) (now (index .entry)) (store (now (nodes .exit)) (now (children .exit)) (now (cuts .exit))) (now (index .exit))) ⌝ }
+    requires { ⌜ (Lent used (store (now nodes) (now children) (now cuts)) (now index)) × (Buildable (tableOf used (store (now nodes) (now children) (now cuts))) v es) ⌝ }
+    ensures { λ r. ⌜ Creates used (settled (tableOf used (store (now (nodes .entry)) (now (children .entry)) (now (cuts .entry)))) v (piecesOf es)) r (store (now (nodes .entry)) (now (children .entry)) (now (cuts .entry))) (now (index .entry)) (store (now (nodes .exit)) (now (children .exit)) (now (cuts .exit))) (now (index .exit)) ⌝ }
 {
+    // Of merged edges all children agree exactly when one edge is left: the child stands for the node.
     let first = es.list[0];
     let lead = first.child;
     if es.len == 1 {
         return Made {
             ok: true,
             id: lead,
-            head,
+            used,
         };
     }
-    let rooms = nodes.len() / RECORD_WORDS;
-    let bucket = scaled(hash_edges(v, lead, es), rooms);
-    let at = find(nodes, children, cuts, index, head, v, lead, es, bucket);
+    // "Flip if the first child is complemented": no flipped copy is made. The node is hashed, compared and stored with each child seen
+    // under the sign of the first, and its id gets that sign.
+    let bucket = scaled(hash_edges(v, lead, es), nodes.len() / RECORD_WORDS);
+    let at = find(nodes, children, cuts, index, v, lead, es, bucket);
     if 0 < at {
         return Made {
             ok: true,
             id: NodeId(at as u32 * 2).negate(lead),
-            head,
+            used,
         };
     }
-    if !has_room(rooms, children.len(), head, es.len) {
-        return Made {
-            ok: false,
-            id: NodeId::FALSE,
-            head,
-        };
-    }
-    let next = add(nodes, children, cuts, index, head, v, lead, es, bucket);
-    Made {
-        ok: true,
-        id: NodeId(next.used as u32 * 2).negate(lead),
-        head: next,
-    }
+    extend(nodes, children, cuts, index, used, v, lead, es, bucket)
 }
 
-// The id of boolean variable v over two children. Conjunction makes its boolean nodes by this call, so that the array of edges is on the
-// stack only while a node is made, and not once for each variable that the walk has gone down.
+// Node making, from edges whose neighbours may still agree: "neighbouring edges with equal children are merged first". `create_node` of the
+// source, which does not merge, and so gives equal conditions two ids (docs/DIFFERENCES.md).
+pub fn create_node(
+    nodes: &mut [u32],
+    children: &mut [u32],
+    cuts: &mut [i64],
+    index: &mut [u32],
+    used: Used,
+    v: usize,
+    es: Edges,
+) -> Made
+    requires { ⌜ (Lent used (store (now nodes) (now children) (now cuts)) (now index)) × (Mergeable (tableOf used (store (now nodes) (now children) (now cuts))) v es) ⌝ }
+    ensures { λ r. ⌜ Creates used (create-node (tableOf used (store (now (nodes .entry)) (now (children .entry)) (now (cuts .entry)))) v (piecesOf es)) r (store (now (nodes .entry)) (now (children .entry)) (now (cuts .entry))) (now (index .entry)) (store (now (nodes .exit)) (now (children .exit)) (now (cuts .exit))) (now (index .exit)) ⌝ }
+{
+    settle(nodes, children, cuts, index, used, v, merged(es))
+}
+
+// The same for a boolean variable, from its two children. Conjunction makes its boolean nodes by this call, so that the array of edges is
+// on the stack only while a node is made, and not once for each variable that the walk has gone down.
 pub fn create_pair(
     nodes: &mut [u32],
     children: &mut [u32],
     cuts: &mut [i64],
     index: &mut [u32],
-    head: Head,
+    used: Used,
     v: usize,
     high: NodeId,
     low: NodeId,
 ) -> Made
-    requires { ⌜ (Lent head (store (now nodes) (now children) (now cuts)) (now index)) × (firstBoolean ≤ v) × (v < variables) × (Child (tableOf head (store (now nodes) (now children) (now cuts))) (suc v) (high .0)) × (Child (tableOf head (store (now nodes) (now children) (now cuts))) (suc v) (low .0)) ⌝ }
-    ensures { λ r. ⌜ (Outcome head (create-node (tableOf head (store (now (nodes .entry)) (now (children .entry)) (now (cuts .entry)))) v (cut (high .0) 1 (last (low .0)))) r (store (now (nodes .entry)) (now (children .entry)) (now (cuts .entry))) (store (now (nodes .exit)) (now (children .exit)) (now (cuts .exit))) (now (index .exit))) × (r .ok ≡ false → Untouched (store (now (nodes .entry)) (now (children .entry)) (now (cuts .entry))) (now (index .entry)) (store (now (nodes .exit)) (now (children .exit)) (now (cuts .exit))) (now (index .exit))) ⌝ }
+    requires { ⌜ (Lent used (store (now nodes) (now children) (now cuts)) (now index)) × (firstBoolean ≤ v) × (v < variables) × (Child (tableOf used (store (now nodes) (now children) (now cuts))) (suc v) (high .0)) × (Child (tableOf used (store (now nodes) (now children) (now cuts))) (suc v) (low .0)) ⌝ }
+    ensures { λ r. ⌜ Creates used (create-pair (tableOf used (store (now (nodes .entry)) (now (children .entry)) (now (cuts .entry)))) v (high .0) (low .0)) r (store (now (nodes .entry)) (now (children .entry)) (now (cuts .entry))) (now (index .entry)) (store (now (nodes .exit)) (now (children .exit)) (now (cuts .exit))) (now (index .exit)) ⌝ }
 {
-    create_node(nodes, children, cuts, index, head, v, pair_of(high, low))
+    settle(nodes, children, cuts, index, used, v, pair_of(high, low))
 }

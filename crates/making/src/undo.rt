@@ -6,7 +6,7 @@ ghost use Rattle.diagram.specs.Room.{mostEdges};
 ghost use Rattle.making.specs.Storing.{EdgesBlank};
 ghost use Rattle.making.specs.Outcome.{Lent, TakenBack};
 ghost use Rattle.table.specs.Layout.{store};
-use super::nodes::Head;
+use super::nodes::Used;
 use super::nodes::put_record;
 use table::index::hash_of;
 use table::index::scaled;
@@ -34,13 +34,13 @@ fn pop(
     children: &mut [u32],
     cuts: &mut [i64],
     index: &mut [u32],
-    head: Head,
-) -> Head
-    requires { ⌜ (Lent head (store (now nodes) (now children) (now cuts)) (now index)) × (1 ≤ head .used) ⌝ }
-    ensures { λ r. ⌜ TakenBack (head .used - 1) head (store (now (nodes .entry)) (now (children .entry)) (now (cuts .entry))) r (store (now (nodes .exit)) (now (children .exit)) (now (cuts .exit))) (now (index .exit)) ⌝ }
+    used: Used,
+) -> Used
+    requires { ⌜ (Lent used (store (now nodes) (now children) (now cuts)) (now index)) × (1 ≤ used .nodes) ⌝ }
+    ensures { λ r. ⌜ TakenBack (used .nodes - 1) used (store (now (nodes .entry)) (now (children .entry)) (now (cuts .entry))) r (store (now (nodes .exit)) (now (children .exit)) (now (cuts .exit))) (now (index .exit)) ⌝ }
 {
     let rooms = nodes.len() / RECORD_WORDS;
-    let n = head.used - 1;
+    let n = used.nodes - 1;
     let count = count_of(nodes, n);
     let e = first_of(nodes, n);
     let bucket = scaled(hash_of(children, cuts, var_of(nodes, n), e, count), rooms);
@@ -49,23 +49,23 @@ fn pop(
     index[rooms + n] = 0;
     blank_edges(children, cuts, e, count);
     put_record(nodes, n, 0, 0, 0);
-    Head { used: n, edges: e }
+    Used { nodes: n, edges: e }
 }
 
-// Takes back every node that came after the first `used`.
+// Takes back every node that came after the first `keep`.
 pub fn undo(
     nodes: &mut [u32],
     children: &mut [u32],
     cuts: &mut [i64],
     index: &mut [u32],
-    head: Head,
-    used: usize,
-) -> Head
-    requires { ⌜ (Lent head (store (now nodes) (now children) (now cuts)) (now index)) × (used ≤ head .used) ⌝ }
-    ensures { λ r. ⌜ TakenBack used head (store (now (nodes .entry)) (now (children .entry)) (now (cuts .entry))) r (store (now (nodes .exit)) (now (children .exit)) (now (cuts .exit))) (now (index .exit)) ⌝ }
+    used: Used,
+    keep: usize,
+) -> Used
+    requires { ⌜ (Lent used (store (now nodes) (now children) (now cuts)) (now index)) × (keep ≤ used .nodes) ⌝ }
+    ensures { λ r. ⌜ TakenBack keep used (store (now (nodes .entry)) (now (children .entry)) (now (cuts .entry))) r (store (now (nodes .exit)) (now (children .exit)) (now (cuts .exit))) (now (index .exit)) ⌝ }
 {
-    let mut now = head;
-    while used < now.used {
+    let mut now = used;
+    while keep < now.nodes {
         now = pop(nodes, children, cuts, index, now);
     }
     now

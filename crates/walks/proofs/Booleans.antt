@@ -14,7 +14,7 @@ use Rattle.algebra.specs.Making.{create-node}
 use Rattle.views.specs.declared.View.{View}
 use Rattle.views.specs.Seeing.{Asked, Inside, childSeen, seen}
 use Rattle.views.proofs.Sights.{childSeen-stays, inside-wider, known-used}
-use Rattle.making.specs.declared.nodes.Head.{Head}
+use Rattle.making.specs.declared.nodes.Used.{Used}
 use Rattle.making.specs.declared.nodes.Made.{Made}
 use Rattle.making.specs.Outcome.{Outcome, tableOf}
 use Rattle.making.proofs.Kept.{edges-inside}
@@ -25,11 +25,11 @@ use Rattle.walks.proofs.Halves.{half, half-inside, pairAt, pair-kids, f
 use Rattle.table.specs.Layout.{Store}
 
 -- A child of the sides may be asked about.
-pub asked-kid : (h : Head) (st : Store) {v n c : ℕ} → variables < suc v + n → Child (tableOf h st) (suc v) c → Asked (tableOf h st) (h .used) n c
-asked-kid h st {c = c} e k = record { known = known-used st (h .used) c (k .0); ahead = omega (arith, k .1) }
+pub asked-kid : (h : Used) (st : Store) {v n c : ℕ} → variables < suc v + n → Child (tableOf h st) (suc v) c → Asked (tableOf h st) (h .nodes) n c
+asked-kid h st {c = c} e k = record { known = known-used st (h .nodes) c (k .0); ahead = omega (arith, k .1) }
 
 -- A view of old edges lies within the slices.
-pub inside-still : {P : Note} {h : Head} {st : Store} {index memo : List ℕ} → Ready P h st index memo → {w : View} → Inside (h .edges) w → {n : ℕ} → n ≡ length (st .children) → Inside n w
+pub inside-still : {P : Note} {h : Used} {st : Store} {index memo : List ℕ} → Ready P h st index memo → {w : View} → Inside (h .edges) w → {n : ℕ} → n ≡ length (st .children) → Inside n w
 inside-still {h = h} r {w} i {n} e = inside-wider (h .edges) n w (omega (arith, edges-inside (r .lent))) i
 
 -- The half of a view that was read,
@@ -37,10 +37,10 @@ pub half-of : (children : List ℕ) (w : View) (low : Bool) {i x : ℕ} → x �
 half-of children w low e q = e ∙ ap (childSeen children w) q
 
 -- also where a step was made before it was read.
-pub half-still : {P : Note} {h : Head} {want : Table × ℕ} {m : Made} {st : Store} {memo : List ℕ} {st′ : Store} {index′ memo′ : List ℕ} → Stepped P h want m st memo st′ index′ memo′ → (w : View) (low : Bool) {i x : ℕ} → Inside (h .edges) w → x ≡ childSeen (st′ .children) w i → i ≡ half (w .count) low → x ≡ childSeen (st .children) w (half (w .count) low)
+pub half-still : {P : Note} {h : Used} {want : Table × ℕ} {m : Made} {st : Store} {memo : List ℕ} {st′ : Store} {index′ memo′ : List ℕ} → Stepped P h want m st memo st′ index′ memo′ → (w : View) (low : Bool) {i x : ℕ} → Inside (h .edges) w → x ≡ childSeen (st′ .children) w i → i ≡ half (w .count) low → x ≡ childSeen (st .children) w (half (w .count) low)
 half-still {h = h} {st = st} {st′ = st′} d w low k e q = half-of (st′ .children) w low e q ∙ childSeen-stays (st .children) (st′ .children) (st .cuts) (st′ .cuts) 0 (h .edges) w k (d .outcome .stays .child) (half (w .count) low) (half-inside (w .count) (k .some) low)
 
-module _ {v n : ℕ} (W : Walk v n) {h : Head} {st : Store} {index memo : List ℕ} (r : Ready (W .note) h st index memo) {a b : View} (g : firstBoolean ≤ v)
+module _ {v n : ℕ} (W : Walk v n) {h : Used} {st : Store} {index memo : List ℕ} (r : Ready (W .note) h st index memo) {a b : View} (g : firstBoolean ≤ v)
     (s : Sides (tableOf h st) (h .edges) (st .children) (st .cuts) v n a b) (back : Bool) where
   abbrev t : Table
   t = tableOf h st
@@ -57,10 +57,10 @@ module _ {v n : ℕ} (W : Walk v n) {h : Head} {st : Store} {index memo : List �
   abbrev whole : Table × ℕ
   whole = both back (W .f) t v (seen (st .children) (st .cuts) v a 0) (seen (st .children) (st .cuts) v b 0)
 
-  pub first-asked : {x y : ℕ} → x ≡ (P back) .0 → y ≡ (P back) .1 → Asked t (h .used) n x × Asked t (h .used) n y
+  pub first-asked : {x y : ℕ} → x ≡ (P back) .0 → y ≡ (P back) .1 → Asked t (h .nodes) n x × Asked t (h .nodes) n y
   first-asked {x} {y} ex ey =
       let k = pair-kids W (sound-of (r .lent)) g s back in
-      (subst (Asked t (h .used) n) (sym ex) (asked-kid h st (s .enough) (k .0)), subst (Asked t (h .used) n) (sym ey) (asked-kid h st (s .enough) (k .1)))
+      (subst (Asked t (h .nodes) n) (sym ex) (asked-kid h st (s .enough) (k .0)), subst (Asked t (h .nodes) n) (sym ey) (asked-kid h st (s .enough) (k .1)))
 
   module _ {m : Made} {st′ : Store} {index′ memo′ : List ℕ} {x y : ℕ} (ex : x ≡ (P back) .0) (ey : y ≡ (P back) .1)
       (d : Stepped (W .note) h (W .f t (x, y)) m st memo st′ index′ memo′) where
@@ -71,18 +71,18 @@ module _ {v n : ℕ} (W : Walk v n) {h : Head} {st : Store} {index memo : List �
     first-fails bad = fails c bad (first-before W (sound-of (r .lent)) g s back)
 
     abbrev t′ : Table
-    t′ = tableOf (m .head) st′
+    t′ = tableOf (m .used) st′
 
-    pub second-asked : {x′ y′ : ℕ} → x′ ≡ (P (not back)) .0 → y′ ≡ (P (not back)) .1 → Asked t′ (m .head .used) n x′ × Asked t′ (m .head .used) n y′
+    pub second-asked : {x′ y′ : ℕ} → x′ ≡ (P (not back)) .0 → y′ ≡ (P (not back)) .1 → Asked t′ (m .used .nodes) n x′ × Asked t′ (m .used .nodes) n y′
     second-asked {x′} {y′} ex′ ey′ =
         let k = pair-kids W (sound-of (r .lent)) g s (not back) in
-        (subst (Asked t′ (m .head .used) n) (sym ex′) (ask _ (k .0)), subst (Asked t′ (m .head .used) n) (sym ey′) (ask _ (k .1)))
+        (subst (Asked t′ (m .used .nodes) n) (sym ex′) (ask _ (k .0)), subst (Asked t′ (m .used .nodes) n) (sym ey′) (ask _ (k .1)))
       where
-        ask : (i : ℕ) → Child t (suc v) i → Asked t′ (m .head .used) n i
-        ask i j = asked-kid (m .head) st′ (s .enough) (continues-child (grew r c) (suc v) i j)
+        ask : (i : ℕ) → Child t (suc v) i → Asked t′ (m .used .nodes) n i
+        ask i j = asked-kid (m .used) st′ (s .enough) (continues-child (grew r c) (suc v) i j)
 
     module _ (good : m .ok ≡ true) {m′ : Made} {st″ : Store} {index″ memo″ : List ℕ} {x′ y′ : ℕ} (ex′ : x′ ≡ (P (not back)) .0) (ey′ : y′ ≡ (P (not back)) .1)
-        (d′ : Stepped (W .note) (m .head) (W .f t′ (x′, y′)) m′ st′ memo′ st″ index″ memo″) where
+        (d′ : Stepped (W .note) (m .used) (W .f t′ (x′, y′)) m′ st′ memo′ st″ index″ memo″) where
       both-steps : Stepped (W .note) h x₂ m′ st memo st″ index″ memo″
       both-steps = then r c (becomes d′ (ap (λ (s : Table). W .f s (x′, y′)) (c .outcome .table good) ∙ ap₂ (λ (i j : ℕ). W .f (x₁ .0) (i, j)) ex′ ey′))
 
@@ -92,7 +92,7 @@ module _ {v n : ℕ} (W : Walk v n) {h : Head} {st : Store} {index memo : List �
       -- The two answers as the children of the new node, high and low.
       module _ (good′ : m′ .ok ≡ true) {i j : ℕ} (ei : i ≡ high W (sound-of (r .lent)) g s back (m .id .0) (m′ .id .0)) (ej : j ≡ low W (sound-of (r .lent)) g s back (m .id .0) (m′ .id .0)) where
         abbrev t″ : Table
-        t″ = tableOf (m′ .head) st″
+        t″ = tableOf (m′ .used) st″
 
         is-high : i ≡ high W (sound-of (r .lent)) g s back (x₁ .1) (x₂ .1)
         is-high = ei ∙ ap₂ (high W (sound-of (r .lent)) g s back) (c .outcome .id good) (both-steps .outcome .id good′)
@@ -108,5 +108,5 @@ module _ {v n : ℕ} (W : Walk v n) {h : Head} {st : Store} {index memo : List �
         wanted : create-node t″ v (cut i 1 (last j)) ≡ whole
         wanted = ap₂ (λ (u : Table) (p : Pieces ℕ). create-node u v p) (both-steps .outcome .table good′) (ap₂ (λ (p q : ℕ). cut p 1 (last q)) is-high is-low) ∙ sym (both-halves W (sound-of (r .lent)) g s back)
 
-        pub built-it : {o : Made} {st‴ : Store} {index‴ : List ℕ} → Outcome (m′ .head) (create-node t″ v (cut i 1 (last j))) o st″ st‴ index‴ → Stepped (W .note) h whole o st memo st‴ index‴ memo″
+        pub built-it : {o : Made} {st‴ : Store} {index‴ : List ℕ} → Outcome (m′ .used) (create-node t″ v (cut i 1 (last j))) o st″ st‴ index‴ → Stepped (W .note) h whole o st memo st‴ index‴ memo″
         built-it o = becomes (then-made r both-steps (W .grows) o) wanted

@@ -16,7 +16,7 @@ use Rattle.table.specs.Layout.{room, Store}
 use Rattle.table.proofs.Laws.{clash}
 use Rattle.table.proofs.Bridge.{ordered}
 use Rattle.merging.proofs.Fitting.{fits-before}
-use Rattle.making.specs.declared.nodes.Head.{Head}
+use Rattle.making.specs.declared.nodes.Used.{Used}
 use Rattle.making.specs.declared.nodes.Made.{Made}
 use Rattle.making.specs.Outcome.{Lent, Outcome, tableOf}
 use Rattle.making.proofs.Kept.{stays-here, stays-trans, continued}
@@ -31,23 +31,23 @@ use Rattle.walks.proofs.Recalled.{overwritten-long, overwritten-true, m
 abbrev pub Grows : Note → Type 0
 Grows P = (t t′ : Table) → Sound t → Sound t′ → Continues t t′ → (x y z : ℕ) → P t x y z → P t′ x y z
 
-pub sound-of : {h : Head} {st : Store} {index : List ℕ} → Lent h st index → Sound (tableOf h st)
-sound-of {h} {st} {index} l = ordered st index (h .used) (l .sound)
+pub sound-of : {h : Used} {st : Store} {index : List ℕ} → Lent h st index → Sound (tableOf h st)
+sound-of {h} {st} {index} l = ordered st index (h .nodes) (l .sound)
 
 -- The outcome where no node is made.
-pub nothing-made : {h : Head} {st : Store} {index : List ℕ} → Lent h st index → {want : Table × ℕ} (id : NodeId) → want ≡ (tableOf h st, id .0) → Outcome h want (record { ok = true; id = id; head = h }) st st index
+pub nothing-made : {h : Used} {st : Store} {index : List ℕ} → Lent h st index → {want : Table × ℕ} (id : NodeId) → want ≡ (tableOf h st, id .0) → Outcome h want (record { ok = true; id = id; used = h }) st st index
 nothing-made l id e = record { lent = l; stays = stays-here; table = λ q. sym (ap (λ (x : Table × ℕ). x .0) e); id = λ q. sym (ap (λ (x : Table × ℕ). x .1) e); full = λ q. absurd (clash q refl) }
 
-module _ {P : Note} {h : Head} {st : Store} {index memo : List ℕ} (r : Ready P h st index memo) where
-  pub can-read : Readable st (h .used)
-  can-read = readable st index (h .used) (r .lent .allowed) (r .lent .sound)
+module _ {P : Note} {h : Used} {st : Store} {index memo : List ℕ} (r : Ready P h st index memo) where
+  pub can-read : Readable st (h .nodes)
+  can-read = readable st index (h .nodes) (r .lent .allowed) (r .lent .sound)
 
   -- Of an id that may be asked about, a call is left.
-  pub call-left : {n x : ℕ} → Asked (tableOf h st) (h .used) n x → 1 ≤ n
-  call-left {n} {x} q = omega (arith, var-most (tableOf h st) (sound-of (r .lent)) (ref x) (known-held st (h .used) x (q .known)), q .ahead)
+  pub call-left : {n x : ℕ} → Asked (tableOf h st) (h .nodes) n x → 1 ≤ n
+  call-left {n} {x} q = omega (arith, var-most (tableOf h st) (sound-of (r .lent)) (ref x) (known-held st (h .nodes) x (q .known)), q .ahead)
 
   -- What was settled without a node.
-  pub settled : {want : Table × ℕ} (id : NodeId) → want ≡ (tableOf h st, id .0) → Stepped P h want (record { ok = true; id = id; head = h }) st memo st index memo
+  pub settled : {want : Table × ℕ} (id : NodeId) → want ≡ (tableOf h st, id .0) → Stepped P h want (record { ok = true; id = id; used = h }) st memo st index memo
   settled id e = record { outcome = nothing-made (r .lent) id e; long = refl; recalled = r .recalled }
 
   -- What was made here.
@@ -66,17 +66,17 @@ module _ {P : Note} {h : Head} {st : Store} {index memo : List ℕ} (r : Ready P
     same-room = ap (λ (n : ℕ). n / 4) (c .outcome .stays .long)
 
     -- and the next step finds what it asks.
-    pub ready-after : Ready P (m .head) st′ index′ memo′
+    pub ready-after : Ready P (m .used) st′ index′ memo′
     ready-after = record { lent = c .outcome .lent; long = c .long ∙ (r .long ∙ ap (λ (n : ℕ). n * 3) (sym same-room)); recalled = c .recalled }
 
-    pub grew : Continues (tableOf h st) (tableOf (m .head) st′)
+    pub grew : Continues (tableOf h st) (tableOf (m .used) st′)
     grew = continued (r .lent) (c .outcome .stays)
 
     fits-moved : {t : Table} → Fits (room (st .nodes)) (length (st .children)) t → Fits (room (st′ .nodes)) (length (st′ .children)) t
     fits-moved {t} f = subst (λ (n : ℕ). Fits n (length (st′ .children)) t) (sym same-room) (subst (λ (n : ℕ). Fits (room (st .nodes)) n t) (sym (c .outcome .stays .wide)) f)
 
     -- One step after another,
-    pub then : {want′ : Table × ℕ} {m′ : Made} {st″ : Store} {index″ memo″ : List ℕ} → Stepped P (m .head) want′ m′ st′ memo′ st″ index″ memo″ → Stepped P h want′ m′ st memo st″ index″ memo″
+    pub then : {want′ : Table × ℕ} {m′ : Made} {st″ : Store} {index″ memo″ : List ℕ} → Stepped P (m .used) want′ m′ st′ memo′ st″ index″ memo″ → Stepped P h want′ m′ st memo st″ index″ memo″
     then d = record {
       outcome = record { lent = d .outcome .lent; stays = stays-trans (c .outcome .stays) (d .outcome .stays); table = d .outcome .table; id = d .outcome .id; full = λ q f. d .outcome .full q (fits-moved f) };
       long = d .long ∙ c .long;
@@ -84,14 +84,14 @@ module _ {P : Note} {h : Head} {st : Store} {index memo : List ℕ} (r : Ready P
     }
 
     -- and making a node at the end.
-    pub then-made : Grows P → {want′ : Table × ℕ} {m′ : Made} {st″ : Store} {index″ : List ℕ} → Outcome (m .head) want′ m′ st′ st″ index″ → Stepped P h want′ m′ st memo st″ index″ memo′
+    pub then-made : Grows P → {want′ : Table × ℕ} {m′ : Made} {st″ : Store} {index″ : List ℕ} → Outcome (m .used) want′ m′ st′ st″ index″ → Stepped P h want′ m′ st memo st″ index″ memo′
     then-made grows d = record {
       outcome = record { lent = d .lent; stays = stays-trans (c .outcome .stays) (d .stays); table = d .table; id = d .id; full = λ q f. d .full q (fits-moved f) };
       long = c .long;
       recalled = memo-still (grows _ _ (sound-of (c .outcome .lent)) (sound-of (d .lent)) (continued (c .outcome .lent) (d .stays))) (c .recalled);
     }
 
-module _ {P : Note} {h : Head} {want want′ : Table × ℕ} {m : Made} {st : Store} {memo : List ℕ} {st′ : Store} {index′ memo′ : List ℕ} (c : Stepped P h want m st memo st′ index′ memo′) where
+module _ {P : Note} {h : Used} {want want′ : Table × ℕ} {m : Made} {st : Store} {memo : List ℕ} {st′ : Store} {index′ memo′ : List ℕ} (c : Stepped P h want m st memo st′ index′ memo′) where
   pub becomes : want ≡ want′ → Stepped P h want′ m st memo st′ index′ memo′
   becomes e = subst (λ (w : Table × ℕ). Stepped P h w m st memo st′ index′ memo′) e c
 
@@ -110,6 +110,6 @@ module _ {P : Note} {h : Head} {want want′ : Table × ℕ} {m : Made} {st : St
   }
 
 -- One more answer is noted.
-pub noted : {P : Note} {h : Head} {want : Table × ℕ} {m : Made} {st : Store} {memo : List ℕ} {st′ : Store} {index′ memo′ memo″ : List ℕ} → Stepped P h want m st memo st′ index′ memo′
-    → {x y z : ℕ} → P (tableOf (m .head) st′) x y z → Overwritten memo′ x y z memo″ → Stepped P h want m st memo st′ index′ memo″
+pub noted : {P : Note} {h : Used} {want : Table × ℕ} {m : Made} {st : Store} {memo : List ℕ} {st′ : Store} {index′ memo′ memo″ : List ℕ} → Stepped P h want m st memo st′ index′ memo′
+    → {x y z : ℕ} → P (tableOf (m .used) st′) x y z → Overwritten memo′ x y z memo″ → Stepped P h want m st memo st′ index′ memo″
 noted c e o = record { outcome = c .outcome; long = overwritten-long o ∙ c .long; recalled = overwritten-true (c .recalled) e o }

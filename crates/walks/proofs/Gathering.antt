@@ -30,7 +30,7 @@ use Rattle.views.specs.Seeing.{Asked, Inside, childSeen, cutSeen, seen}
 use Rattle.views.proofs.Sights.{seen-each, childSeen-stays, cutSeen-stays}
 use Rattle.making.specs.declared.edges.Edge.{Edge}
 use Rattle.making.specs.declared.edges.Edges as built
-use Rattle.making.specs.declared.nodes.Head.{Head}
+use Rattle.making.specs.declared.nodes.Used.{Used}
 use Rattle.making.specs.declared.nodes.Made as code
 use Rattle.making.specs.Building.{Building, none, childIn, cutIn, piecesOf}
 use Rattle.making.specs.Outcome.{Stays, Outcome, Buildable, tableOf}
@@ -39,7 +39,7 @@ use Rattle.walks.specs.Walking.{Note, Ready, Stepped, Mergeable, NodeOve
 use Rattle.walks.proofs.Composing.{Grows, sound-of, ready-after, then-made, becomes, noted}
 use Rattle.walks.proofs.Booleans.{asked-kid}
 
-module _ (f : Table → ℕ → Table × ℕ) (h : Head) (st : Store) (memo : List ℕ) (a : View) (u : ℕ) where
+module _ (f : Table → ℕ → Table × ℕ) (h : Used) (st : Store) (memo : List ℕ) (a : View) (u : ℕ) where
   abbrev t : Table
   t = tableOf h st
 
@@ -56,7 +56,7 @@ module _ (f : Table → ℕ → Table × ℕ) (h : Head) (st : Store) (memo : Li
   want = over back f t u (seen (st .children) (st .cuts) u a 0)
 
   -- With so many turns left the table is the one of the turns that were, and each answer stands in its child's place; or there was no room.
-  pub record Gather (P : Note) (now : Head) (st′ : Store) (index′ memo′ : List ℕ) (out : built.Edges) (ok : Bool) (left : ℕ) : Type 0 where
+  pub record Gather (P : Note) (now : Used) (st′ : Store) (index′ memo′ : List ℕ) (out : built.Edges) (ok : Bool) (left : ℕ) : Type 0 where
     pub ready : Ready P now st′ index′ memo′
     pub stays : Stays h st now st′
     pub long : length memo′ ≡ length memo
@@ -113,7 +113,7 @@ module _ (f : Table → ℕ → Table × ℕ) (h : Head) (st : Store) (memo : Li
           full = λ q. absurd (clash q refl);
         }
 
-    module _ {now : Head} {st₁ : Store} {index₁ memo₁ : List ℕ} {out : built.Edges} {ok : Bool} {left : ℕ}
+    module _ {now : Used} {st₁ : Store} {index₁ memo₁ : List ℕ} {out : built.Edges} {ok : Bool} {left : ℕ}
         (l : Gather P now st₁ index₁ memo₁ out ok left) where
       abbrev w : Table
       w = tableOf now st₁
@@ -151,11 +151,11 @@ module _ (f : Table → ℕ → Table × ℕ) (h : Head) (st : Store) (memo : Li
           grown = subst (Child w (suc u)) (sym ex) (continues-child (continued (r .lent) (l .stays)) (suc u) _ (kid (turn back n j) (turn-inside back n j here)))
 
           -- Its child may be asked about.
-          pub kid-asked : {q : ℕ} → variables < suc u + q → Asked w (now .used) q x
+          pub kid-asked : {q : ℕ} → variables < suc u + q → Asked w (now .nodes) q x
           kid-asked e = asked-kid now st₁ e grown
 
-          module _ {k : ℕ} (rk : i + 1 < a .count → k ≡ cutSeen (st₁ .cuts) u a i) {d : code.Made} {nodes₂ children₂ : List ℕ} {cuts₂ : List ℤ} {index₂ memo₂ : List ℕ}
-              (e : Stepped P now (f w x) d st₁ memo₁ nodes₂ children₂ cuts₂ index₂ memo₂) {left₂ : ℕ} (el : (d .ok ≡ true → left₂ ≡ left - 1) × (d .ok ≡ false → left₂ ≡ 0)) where
+          module _ {k : ℕ} (rk : i + 1 < a .count → k ≡ cutSeen (st₁ .cuts) u a i) {d : code.Made} {st₂ : Store} {index₂ memo₂ : List ℕ}
+              (e : Stepped P now (f w x) d st₁ memo₁ st₂ index₂ memo₂) {left₂ : ℕ} (el : (d .ok ≡ true → left₂ ≡ left - 1) × (d .ok ≡ false → left₂ ≡ 0)) where
             abbrev out₂ : built.Edges
             out₂ = record { list = set (out .list) i (record { cut = k; child = d .id; spare = 0 }); len = out .len }
 
@@ -188,7 +188,7 @@ module _ (f : Table → ℕ → Table × ℕ) (h : Head) (st : Store) (memo : Li
             cut-now p q b (no z) = ap (λ (y : Edge). y .cut) (other p (omega (arith, z))) ∙ l .cut still-ok p (omega (arith, z)) b
 
             -- One turn of the loop,
-            pub gather-step : Gather P (d .head) nodes₂ children₂ cuts₂ index₂ memo₂ out₂ (d .ok) left₂
+            pub gather-step : Gather P (d .used) st₂ index₂ memo₂ out₂ (d .ok) left₂
             gather-step = record {
               ready = ready-after (l .ready) e;
               stays = stays-trans (l .stays) (e .outcome .stays);
@@ -222,7 +222,7 @@ module _ (f : Table → ℕ → Table × ℕ) (h : Head) (st : Store) (memo : Li
                 go false g = omega (arith, el .1 g, on)
 
       -- What is done so far.
-      pub so-far : Stepped P h (w, 0) (record { ok = true; id = record { 0 = 0 }; head = now }) st memo st₁ index₁ memo₁
+      pub so-far : Stepped P h (w, 0) (record { ok = true; id = record { 0 = 0 }; used = now }) st memo st₁ index₁ memo₁
       so-far = record {
         outcome = record { lent = l .ready .lent; stays = l .stays; table = λ q. refl; id = λ q. refl; full = λ q. absurd (clash q refl) };
         long = l .long;
@@ -267,14 +267,14 @@ module _ (f : Table → ℕ → Table × ℕ) (h : Head) (st : Store) (memo : Li
           made-is = ap₂ (λ (b : Table) (p : Pieces ℕ). create-node b u p) table-is pieces-are ∙ sym want-is
 
         -- The node over the answers, and what is noted of it.
-        pub gathered : {x : ℕ} → ((t′ : Table) (z : ℕ) → t′ ≡ want .0 → z ≡ want .1 → P t′ x TRUE z) → {o : code.Made} {nodes₂ children₂ : List ℕ} {cuts₂ : List ℤ} {index₂ memo₂ : List ℕ}
-            → NodeOver ok now x u closed st₁ index₁ memo₁ o nodes₂ children₂ cuts₂ index₂ memo₂ → Stepped P h want o st memo nodes₂ children₂ cuts₂ index₂ memo₂
-        gathered {x} note {o} {nodes₂} {children₂} {cuts₂} {index₂} {memo₂} v = go ok refl
+        pub gathered : {x : ℕ} → ((t′ : Table) (z : ℕ) → t′ ≡ want .0 → z ≡ want .1 → P t′ x TRUE z) → {o : code.Made} {st₂ : Store} {index₂ memo₂ : List ℕ}
+            → NodeOver ok now x u closed st₁ index₁ memo₁ o st₂ index₂ memo₂ → Stepped P h want o st memo st₂ index₂ memo₂
+        gathered {x} note {o} {st₂} {index₂} {memo₂} v = go ok refl
           where
-            go : (b : Bool) → ok ≡ b → Stepped P h want o st memo nodes₂ children₂ cuts₂ index₂ memo₂
+            go : (b : Bool) → ok ≡ b → Stepped P h want o st memo st₂ index₂ memo₂
             go true good = last (o .ok) refl (becomes (then-made r so-far grows (v .made good)) (made-is good))
               where
-                last : (b : Bool) → o .ok ≡ b → Stepped P h want o st memo nodes₂ children₂ cuts₂ index₂ memo₁ → Stepped P h want o st memo nodes₂ children₂ cuts₂ index₂ memo₂
+                last : (b : Bool) → o .ok ≡ b → Stepped P h want o st memo st₂ index₂ memo₁ → Stepped P h want o st memo st₂ index₂ memo₂
                 last true y q = noted q (note _ _ (q .outcome .table y) (q .outcome .id y)) (v .noted good y)
                 last false y q = rw (v .not-noted good y) q
             go false bad =
@@ -301,6 +301,6 @@ module _ {b : Table} {v : ℕ} {es : built.Edges} (k : Mergeable b v es) {r : bu
     kids = subst (Each (Child b (suc v))) (sym (e .1)) (each-merge (Child b (suc v)) (piecesOf es) (k .kids));
   }
 
-  pub merged-settles : {h : Head} {o : code.Made} {st : Store} {st′ : Store} {index′ : List ℕ}
+  pub merged-settles : {h : Used} {o : code.Made} {st : Store} {st′ : Store} {index′ : List ℕ}
       → Outcome h (settle b v (piecesOf r)) o st st′ index′ → Outcome h (create-node b v (piecesOf es)) o st st′ index′
   merged-settles {h} {o} {st} {st′} {index′} x = subst (λ (p : Pieces ℕ). Outcome h (settle b v p) o st st′ index′) (e .1) x

@@ -32,7 +32,7 @@ use Rattle.views.specs.Seeing.{Asked, Inside, beyond, childSeen, cutSeen, seen}
 use Rattle.views.proofs.Sights.{seen-last, seen-cut, rising-cut, childSeen-stays, cutSeen-stays, cutSeen-range}
 use Rattle.making.specs.declared.edges.Edge.{Edge}
 use Rattle.making.specs.declared.edges.Edges as built
-use Rattle.making.specs.declared.nodes.Head.{Head}
+use Rattle.making.specs.declared.nodes.Used.{Used}
 use Rattle.making.specs.declared.nodes.Made.{Made}
 use Rattle.making.specs.Building.{none, childIn, cutIn, piecesOf}
 use Rattle.making.specs.Outcome.{Stays, Outcome, Buildable, tableOf}
@@ -50,7 +50,7 @@ CutRead cuts w j k = (j + 1 < w .count → k ≡ cutSeen cuts 0 w j) × (w .coun
 abbrev pub still : View → View → ℕ → ℕ → Bool → ℕ
 still a b i j more = cond more (suc ((a .count - i) + (b .count - j))) 0
 
-module _ {v n : ℕ} (W : Walk v n) (h : Head) (st : Store) (memo : List ℕ) (a b : View) where
+module _ {v n : ℕ} (W : Walk v n) (h : Used) (st : Store) (memo : List ℕ) (a b : View) where
   abbrev t : Table
   t = tableOf h st
 
@@ -81,7 +81,7 @@ module _ {v n : ℕ} (W : Walk v n) (h : Head) (st : Store) (memo : List ℕ) (a
     pub pieces : run (childIn out) (cutIn out) 0 (len - 1) ≡ merge (whole .1)
 
   -- What the loop keeps: while there is more, where it stands; else what is built, or that there is no room.
-  pub record Loop (now : Head) (st′ : Store) (index′ memo′ : List ℕ) (out : built.Edges) (final : NodeId) (len i j : ℕ) (ok more : Bool) : Type 0 where
+  pub record Loop (now : Used) (st′ : Store) (index′ memo′ : List ℕ) (out : built.Edges) (final : NodeId) (len i j : ℕ) (ok more : Bool) : Type 0 where
     pub ready : Ready (W .note) now st′ index′ memo′
     pub stays : Stays h st now st′
     pub long : length memo′ ≡ length memo
@@ -102,7 +102,7 @@ module _ {v n : ℕ} (W : Walk v n) (h : Head) (st : Store) (memo : List ℕ) (a
       full = λ q. absurd (clash q refl);
     }
 
-    module _ {now : Head} {st₁ : Store} {index₁ memo₁ : List ℕ} {out : built.Edges} {final : NodeId} {len i j : ℕ} {ok more : Bool}
+    module _ {now : Used} {st₁ : Store} {index₁ memo₁ : List ℕ} {out : built.Edges} {final : NodeId} {len i j : ℕ} {ok more : Bool}
         (l : Loop now st₁ index₁ memo₁ out final len i j ok more) where
       abbrev u : Table
       u = tableOf now st₁
@@ -124,14 +124,14 @@ module _ {v n : ℕ} (W : Walk v n) (h : Head) (st : Store) (memo : List ℕ) (a
           kid-now : (c : ℕ) → Child t (suc v) c → Child u (suc v) c
           kid-now c k = continues-child (continued (r .lent) (l .stays)) (suc v) c k
 
-          pub both-asked : Asked u (now .used) n x × Asked u (now .used) n y
+          pub both-asked : Asked u (now .nodes) n x × Asked u (now .nodes) n y
           both-asked = (
             asked-kid now st₁ (s .enough) (subst (Child u (suc v)) (sym ex) (kid-now _ (first-kid a i (here .left-in) (here .left-kids)))),
             asked-kid now st₁ (s .enough) (subst (Child u (suc v)) (sym ey) (kid-now _ (first-kid b j (here .right-in) (here .right-kids)))),
           )
 
-          module _ {k q : ℕ} (rk : CutRead (st₁ .cuts) a i k) (rq : CutRead (st₁ .cuts) b j q) {m : Made} {nodes₂ children₂ : List ℕ} {cuts₂ : List ℤ} {index₂ memo₂ : List ℕ}
-              (d : Stepped (W .note) now (f u (x, y)) m st₁ memo₁ nodes₂ children₂ cuts₂ index₂ memo₂) {slot₀ : ℕ}
+          module _ {k q : ℕ} (rk : CutRead (st₁ .cuts) a i k) (rq : CutRead (st₁ .cuts) b j q) {m : Made} {st₂ : Store} {index₂ memo₂ : List ℕ}
+              (d : Stepped (W .note) now (f u (x, y)) m st₁ memo₁ st₂ index₂ memo₂) {slot₀ : ℕ}
               (sf : (0 < len → final .0 ≡ m .id .0 → slot₀ ≡ len - 1) × ((0 < len → final .0 ≡ m .id .0 → ⊥) → slot₀ ≡ len)) where
             abbrev pair : ℕ × ℕ
             pair = (childSeen (st .children) a i, childSeen (st .children) b j)
@@ -139,11 +139,11 @@ module _ {v n : ℕ} (W : Walk v n) (h : Head) (st : Store) (memo : List ℕ) (a
             abbrev answer : Table × ℕ
             answer = f u pair
 
-            c : Stepped (W .note) now answer m st₁ memo₁ nodes₂ children₂ cuts₂ index₂ memo₂
+            c : Stepped (W .note) now answer m st₁ memo₁ st₂ index₂ memo₂
             c = becomes d (ap₂ (λ (p q : ℕ). f u (p, q)) ex ey)
 
             abbrev u₂ : Table
-            u₂ = tableOf (m .head) nodes₂ children₂ cuts₂
+            u₂ = tableOf (m .used) st₂
 
             -- cuts
             top-is : topOf v < beyond
@@ -196,7 +196,7 @@ module _ {v n : ℕ} (W : Walk v n) (h : Head) (st : Store) (memo : List ℕ) (a
               }
 
               loop-next : (i₂ j₂ : ℕ) (ok₂ more₂ : Bool) → (more₂ ≡ true → At u₂ out₂ (m .id) (slot + 1) i₂ j₂) → (more₂ ≡ false → ok₂ ≡ true → Built u₂ out₂ (slot + 1))
-                  → (more₂ ≡ false → ok₂ ≡ false → Fits (room (st .nodes)) (length (st .children)) (want .0) → ⊥) → Loop (m .head) nodes₂ children₂ cuts₂ index₂ memo₂ out₂ (m .id) (slot + 1) i₂ j₂ ok₂ more₂
+                  → (more₂ ≡ false → ok₂ ≡ false → Fits (room (st .nodes)) (length (st .children)) (want .0) → ⊥) → Loop (m .used) st₂ index₂ memo₂ out₂ (m .id) (slot + 1) i₂ j₂ ok₂ more₂
               loop-next i₂ j₂ ok₂ more₂ p q r = record {
                 ready = ready-after (l .ready) c;
                 stays = stays-trans (l .stays) (c .outcome .stays);
@@ -347,7 +347,7 @@ module _ {v n : ℕ} (W : Walk v n) (h : Head) (st : Store) (memo : List ℕ) (a
             sides-small (level good fits e) = (omega (arith, li, s .left .most), omega (arith, lj, s .right .most))
 
             -- One turn of the loop.
-            pub loop-step : {ok₂ more₂ : Bool} {slot z dl dr : ℕ} (adv : Advances (m .ok) slot₀ k q ok₂ more₂ slot z dl dr) → Loop (m .head) nodes₂ children₂ cuts₂ index₂ memo₂ (out₂ slot z (slot-inside adv)) (m .id) (slot + 1) (i + dl) (j + dr) ok₂ more₂
+            pub loop-step : {ok₂ more₂ : Bool} {slot z dl dr : ℕ} (adv : Advances (m .ok) slot₀ k q ok₂ more₂ slot z dl dr) → Loop (m .used) st₂ index₂ memo₂ (out₂ slot z (slot-inside adv)) (m .id) (slot + 1) (i + dl) (j + dr) ok₂ more₂
             unfolding slot-inside
             loop-step (stopped x) = loop-next 0 0 (omega arith) (i + 0) (j + 0) false false (λ e. absurd (clash refl e)) (λ e o. absurd (clash refl o)) (λ e o. go (m .ok) refl)
               where
@@ -370,7 +370,7 @@ module _ {v n : ℕ} (W : Walk v n) (h : Head) (st : Store) (memo : List ℕ) (a
                 go false = omega arith
 
       -- What is done so far.
-      pub so-far : Stepped (W .note) h (u, 0) (record { ok = true; id = record { 0 = 0 }; head = now }) st memo st₁ index₁ memo₁
+      pub so-far : Stepped (W .note) h (u, 0) (record { ok = true; id = record { 0 = 0 }; used = now }) st memo st₁ index₁ memo₁
       so-far = record {
         outcome = record { lent = l .ready .lent; stays = l .stays; table = λ e. refl; id = λ e. refl; full = λ e. absurd (clash e refl) };
         long = l .long;
@@ -379,7 +379,7 @@ module _ {v n : ℕ} (W : Walk v n) (h : Head) (st : Store) (memo : List ℕ) (a
 
       -- The loop is left.
       module _ (off : more ≡ false) where
-        pub merged-no : ok ≡ false → (id : NodeId) → Stepped (W .note) h want (record { ok = false; id = id; head = now }) st memo st₁ index₁ memo₁
+        pub merged-no : ok ≡ false → (id : NodeId) → Stepped (W .note) h want (record { ok = false; id = id; used = now }) st memo st₁ index₁ memo₁
         merged-no bad id = record {
           outcome = record { lent = l .ready .lent; stays = l .stays; table = λ e. absurd (clash refl e); id = λ e. absurd (clash refl e); full = λ e. l .full off bad };
           long = l .long;
@@ -409,5 +409,5 @@ module _ {v n : ℕ} (W : Walk v n) (h : Head) (st : Store) (memo : List ℕ) (a
           unfolding both walkIn
           wanted = ap₂ (λ (x : Table) (p : Pieces ℕ). settle x v p) (done .table) (done .pieces)
 
-          pub closed-it : {o : Made} {nodes₂ children₂ : List ℕ} {cuts₂ : List ℤ} {index₂ : List ℕ} → Outcome now (settle u v (piecesOf closed)) o st₁ nodes₂ children₂ cuts₂ index₂ → Stepped (W .note) h want o st memo nodes₂ children₂ cuts₂ index₂ memo₁
+          pub closed-it : {o : Made} {st₂ : Store} {index₂ : List ℕ} → Outcome now (settle u v (piecesOf closed)) o st₁ st₂ index₂ → Stepped (W .note) h want o st memo st₂ index₂ memo₁
           closed-it o = becomes (then-made r so-far (W .grows) o) wanted

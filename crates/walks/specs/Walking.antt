@@ -16,7 +16,7 @@ use Rattle.algebra.specs.Making.{create-node}
 use Rattle.algebra.specs.Conjunction.{walkIn, create-over}
 use Rattle.table.specs.Layout.{room, Store}
 use Rattle.making.specs.declared.edges.Edges as built
-use Rattle.making.specs.declared.nodes.Head.{Head}
+use Rattle.making.specs.declared.nodes.Used.{Used}
 use Rattle.making.specs.declared.nodes.Made.{Made}
 use Rattle.making.specs.Building.{Building, piecesOf}
 use Rattle.making.specs.Outcome.{Lent, Outcome, Untouched, TakenBack, tableOf}
@@ -29,16 +29,16 @@ abbrev pub Note : Type 1
 Note = Table → ℕ → ℕ → ℕ → Type 0
 
 -- A lent table with its memo.
-pub record Ready (P : Note) (h : Head) (st : Store) (index memo : List ℕ) : Type 0 where
+pub record Ready (P : Note) (h : Used) (st : Store) (index memo : List ℕ) : Type 0 where
   pub lent : Lent h st index
   pub long : length memo ≡ room (st .nodes) * 3
   pub recalled : Memo (P (tableOf h st)) memo
 
 -- The outcome of a step, and that the memo is still true.
-pub record Stepped (P : Note) (h : Head) (want : Table × ℕ) (r : Made) (st : Store) (memo : List ℕ) (st′ : Store) (index′ memo′ : List ℕ) : Type 0 where
+pub record Stepped (P : Note) (h : Used) (want : Table × ℕ) (r : Made) (st : Store) (memo : List ℕ) (st′ : Store) (index′ memo′ : List ℕ) : Type 0 where
   pub outcome : Outcome h want r st st′ index′
   pub long : length memo′ ≡ length memo
-  pub recalled : Memo (P (tableOf (r .head) st′)) memo′
+  pub recalled : Memo (P (tableOf (r .used) st′)) memo′
 
 -- Two sides at variable v, which one of them tests or both do: n is more than the variables ahead of their children.
 pub record Sides (t : Table) (e : ℕ) (children : List ℕ) (cuts : List ℤ) (v n : ℕ) (a b : View) : Type 0 where
@@ -77,8 +77,8 @@ pub record Mergeable (t : Table) (u : ℕ) (es : built.Edges) : Type 0 where
   pub kids : Each (Child t (suc u)) (piecesOf es)
 
 -- The node of variable u over these edges, which is noted under x; or nothing, where it is not to be made.
-pub record NodeOver (ok : Bool) (h : Head) (x u : ℕ) (es : built.Edges) (st : Store) (index memo : List ℕ) (r : Made) (st′ : Store) (index′ memo′ : List ℕ) : Type 0 where
-  pub nothing : ok ≡ false → (r .ok ≡ false) × (r .head ≡ h) × Untouched st index st′ index′ × (memo′ ≡ memo)
+pub record NodeOver (ok : Bool) (h : Used) (x u : ℕ) (es : built.Edges) (st : Store) (index memo : List ℕ) (r : Made) (st′ : Store) (index′ memo′ : List ℕ) : Type 0 where
+  pub nothing : ok ≡ false → (r .ok ≡ false) × (r .used ≡ h) × Untouched st index st′ index′ × (memo′ ≡ memo)
   pub made : ok ≡ true → Outcome h (create-node (tableOf h st) u (piecesOf es)) r st st′ index′
   pub noted : ok ≡ true → r .ok ≡ true → Overwritten memo x TRUE (r .id .0) memo′
   pub not-noted : ok ≡ true → r .ok ≡ false → memo′ ≡ memo
@@ -86,11 +86,11 @@ pub record NodeOver (ok : Bool) (h : Head) (x u : ℕ) (es : built.Edges) (st : 
 -- What is left of what was made: all of it; or, where there was no room, nothing after the first `used` nodes. The memo is all zero.
 pub record Finishes (used : ℕ) (m : Made) (st : Store) (index memo : List ℕ) (r : Made) (st′ : Store) (index′ memo′ : List ℕ) : Type 0 where
   pub kept : m .ok ≡ true → (r ≡ m) × Untouched st index st′ index′
-  pub taken : m .ok ≡ false → (r .ok ≡ false) × TakenBack used (m .head) st (r .head) st′ index′
+  pub taken : m .ok ≡ false → (r .ok ≡ false) × TakenBack used (m .used) st (r .used) st′ index′
   pub zeroed : memo′ ≡ replicate (length memo) 0
 
 -- What a whole operation leaves: its outcome, nothing else where there was no room, and a memo of zeros.
-pub record Worked (h : Head) (want : Table × ℕ) (r : Made) (st : Store) (index memo : List ℕ) (st′ : Store) (index′ memo′ : List ℕ) : Type 0 where
+pub record Worked (h : Used) (want : Table × ℕ) (r : Made) (st : Store) (index memo : List ℕ) (st′ : Store) (index′ memo′ : List ℕ) : Type 0 where
   pub outcome : Outcome h want r st st′ index′
   pub untouched : r .ok ≡ false → Untouched st index st′ index′
   pub zeroed : memo′ ≡ replicate (length memo) 0

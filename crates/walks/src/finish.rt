@@ -17,20 +17,20 @@ pub fn finish(
     index: &mut [u32],
     memo: &mut [u32],
     m: Made,
-    used: usize,
+    keep: usize,
 ) -> Made
-    requires { ⌜ (Lent (m .head) (store (now nodes) (now children) (now cuts)) (now index)) × (used ≤ m .head .used) ⌝ }
-    ensures { λ r. ⌜ Finishes used m (store (now (nodes .entry)) (now (children .entry)) (now (cuts .entry))) (now (index .entry)) (now (memo .entry)) r (store (now (nodes .exit)) (now (children .exit)) (now (cuts .exit))) (now (index .exit)) (now (memo .exit)) ⌝ }
+    requires { ⌜ (Lent (m .used) (store (now nodes) (now children) (now cuts)) (now index)) × (keep ≤ m .used .nodes) ⌝ }
+    ensures { λ r. ⌜ Finishes keep m (store (now (nodes .entry)) (now (children .entry)) (now (cuts .entry))) (now (index .entry)) (now (memo .entry)) r (store (now (nodes .exit)) (now (children .exit)) (now (cuts .exit))) (now (index .exit)) (now (memo .exit)) ⌝ }
 {
     zero_words(memo);
     if m.ok {
         return m;
     }
-    let now = m.head;
-    let back = undo(nodes, children, cuts, index, now, used);
+    let now = m.used;
+    let back = undo(nodes, children, cuts, index, now, keep);
     Made {
         ok: false,
         id: NodeId::FALSE,
-        head: back,
+        used: back,
     }
 }

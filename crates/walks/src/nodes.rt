@@ -10,8 +10,8 @@ use super::memo::remember;
 use ids::NodeId;
 use making::edges::Edges;
 use making::edges::merged;
-use making::nodes::Head;
 use making::nodes::Made;
+use making::nodes::Used;
 use making::nodes::create_node;
 use table::limits::RECORD_WORDS;
 
@@ -22,24 +22,24 @@ pub fn node_over(
     cuts: &mut [i64],
     index: &mut [u32],
     memo: &mut [u32],
-    head: Head,
+    used: Used,
     ok: bool,
     x: NodeId,
     u: usize,
     es: Edges,
 ) -> Made
-    requires { ⌜ (Lent head (store (now nodes) (now children) (now cuts)) (now index)) × (length (now memo) ≡ room (now nodes) * 3) × (ok ≡ true → Mergeable (tableOf head (store (now nodes) (now children) (now cuts))) u es) ⌝ }
-    ensures { λ r. ⌜ NodeOver ok head (x .0) u es (store (now (nodes .entry)) (now (children .entry)) (now (cuts .entry))) (now (index .entry)) (now (memo .entry)) r (store (now (nodes .exit)) (now (children .exit)) (now (cuts .exit))) (now (index .exit)) (now (memo .exit)) ⌝ }
+    requires { ⌜ (Lent used (store (now nodes) (now children) (now cuts)) (now index)) × (length (now memo) ≡ room (now nodes) * 3) × (ok ≡ true → Mergeable (tableOf used (store (now nodes) (now children) (now cuts))) u es) ⌝ }
+    ensures { λ r. ⌜ NodeOver ok used (x .0) u es (store (now (nodes .entry)) (now (children .entry)) (now (cuts .entry))) (now (index .entry)) (now (memo .entry)) r (store (now (nodes .exit)) (now (children .exit)) (now (cuts .exit))) (now (index .exit)) (now (memo .exit)) ⌝ }
 {
     if !ok {
         return Made {
             ok: false,
             id: NodeId::FALSE,
-            head,
+            used,
         };
     }
     let rooms = nodes.len() / RECORD_WORDS;
-    let m = create_node(nodes, children, cuts, index, head, u, merged(es));
+    let m = create_node(nodes, children, cuts, index, used, u, merged(es));
     if m.ok {
         let id = m.id;
         remember(memo, rooms, x, NodeId::TRUE, id);

@@ -1,21 +1,21 @@
--- `nodes::create_pair` meets its contract: `create_node` on a high and a low edge. Assumes nothing.
+-- `nodes::create_pair` meets its contract: `settle` on a high and a low edge. Assumes nothing.
 use borrow.Author.Needs.{needs}
 use Rattle.making.proofs.Pairs.{pair-buildable}
 use Rattle.making.proofs.nodes.create_pair.Statement.{statement}
 use Rattle.making.proofs.nodes.create_pair.Tie as tie
 
-create-node-requires : tie.Need-create-node-requires
-create-node-requires c κs = ((c .before .before .before .before .before .before .before .before .pre .0), pair-buildable _ (c .before .before .before .before .before .before .before .before .pre .1) (c .before .before .before .before .before .before .before .before .pre .2) (c .before .before .before .before .before .before .before .before .args .high) (c .before .before .before .before .before .before .before .before .args .low) (c .before .before .before .before .before .before .before .before .pre .3) (c .before .before .before .before .before .before .before .before .pre .4) (c .pair-of .ensures))
+settle-requires : tie.Need-settle-requires
+settle-requires c κs = ((c .before .before .before .before .before .before .before .before .pre .0), pair-buildable _ (c .before .before .before .before .before .before .before .before .pre .1) (c .before .before .before .before .before .before .before .before .pre .2) (c .before .before .before .before .before .before .before .before .args .high) (c .before .before .before .before .before .before .before .before .args .low) (c .before .before .before .before .before .before .before .before .pre .3) (c .before .before .before .before .before .before .before .before .pre .4) (c .pair-of .ensures))
 
 returns : tie.Need-returns
-returns c = rw (c .before .before .before .before .before .before .before .before .pair-of .ensures .1) at (c .before .before .before .before .before .before .before .create-node .ensures)
+returns c = rw (c .before .before .before .before .before .before .before .before .pair-of .ensures .1) at (c .before .before .before .before .before .before .before .settle .ensures)
 
 pub create-pair-spec : {M : Type 1} → statement M
 create-pair-spec =
     tie.close
     (tie.spec
     (λ c κs. search needs)
-    create-node-requires
+    settle-requires
     (λ c. search needs)
     (λ c. search needs)
     (λ c. search needs)

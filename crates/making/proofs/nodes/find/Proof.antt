@@ -18,31 +18,31 @@ abbrev μ-loop : tie.MeasureT-loop
 μ-loop nodes children cuts index v lead es bucket rooms at₀ at = at
 
 word-requires : tie.Need-word-requires Inv-loop μ-loop
-word-requires c κs = omega (arith, (c .before .before .before .pre .0 .allowed .indexed), (c .before .before .before .pre .4))
+word-requires c κs = omega (arith, (c .before .before .before .pre .0 .indexed), (c .before .before .before .pre .4))
 
 loop-holds : tie.Need-loop-holds Inv-loop μ-loop
 loop-holds c = λ u z. look-first (store (now (c .before .before .before .before .args .nodes)) (now (c .before .before .before .before .args .children)) (now (c .before .before .before .before .args .cuts))) (now (c .before .before .before .before .args .index)) u (c .before .before .before .before .args .v) (sign (c .before .before .before .before .args .lead .0)) (c .before .before .before .before .args .es) (c .before .before .before .before .args .bucket) z (c .before .before .before .before .pre .3) (c .before .before .before .before .pre .4) (c .word .ensures .0)
 
 same-node-requires : tie.Need-same-node-requires Inv-loop μ-loop
-same-node-requires c κs = let w = ((c .before .loop .inv) (c .before .before .before .before .before .before .args .head .used) (c .before .before .before .before .before .before .pre .0 .sound)) .within in (omega (arith, (c .loop-test .taken), (c .before .before .before .before .before .before .pre .0 .allowed .whole), (c .before .before .before .before .before .before .pre .0 .sound .records .fits)), (c .before .before .before .before .before .before .pre .0 .allowed .cut-each), (c .before .before .before .before .before .before .pre .0 .sound .records .rules) ((c .before .loop .at) - 1) (omega (arith, (c .loop-test .taken))), (c .before .before .before .before .before .before .pre .1 .building))
+same-node-requires c κs = let w = ((c .before .loop .inv) (c .before .before .before .before .before .before .pre .1 .used) (c .before .before .before .before .before .before .pre .1 .sound)) .within in (omega (arith, (c .loop-test .taken), (c .before .before .before .before .before .before .pre .0 .whole), (c .before .before .before .before .before .before .pre .1 .sound .records .fits)), (c .before .before .before .before .before .before .pre .0 .cut-each), (c .before .before .before .before .before .before .pre .1 .sound .records .rules) ((c .before .loop .at) - 1) (omega (arith, (c .loop-test .taken))), (c .before .before .before .before .before .before .pre .1 .buildable .building))
 
 returns : tie.Need-returns Inv-loop μ-loop
-returns c = look-found (store (now (c .before .before .before .before .before .before .before .before .args .nodes)) (now (c .before .before .before .before .before .before .before .before .args .children)) (now (c .before .before .before .before .before .before .before .before .args .cuts))) (now (c .before .before .before .before .before .before .before .before .args .index)) (c .before .before .before .before .before .before .before .before .args .head .used) (c .before .before .before .before .before .before .before .before .args .v) (sign (c .before .before .before .before .before .before .before .before .args .lead .0)) (c .before .before .before .before .before .before .before .before .args .es) (c .before .before .before .before .before .before .before .before .args .bucket) (c .before .before .before .before .before .before .before .before .pre .0 .sound) (c .before .before .before .before .before .before .before .before .pre .3) (c .before .before .before .before .before .before .before .before .pre .2) (c .before .before .before .before .before .before .before .before .pre .1 .reduced) ((c .before .before .before .loop .inv) (c .before .before .before .before .before .before .before .before .args .head .used) (c .before .before .before .before .before .before .before .before .pre .0 .sound)) (c .before .before .loop-test .taken) (laws.proved (c .before .same-node .ensures) (c .if1 .taken))
+returns c = λ u z. look-found (store (now (c .before .before .before .before .before .before .before .before .args .nodes)) (now (c .before .before .before .before .before .before .before .before .args .children)) (now (c .before .before .before .before .before .before .before .before .args .cuts))) (now (c .before .before .before .before .before .before .before .before .args .index)) u (c .before .before .before .before .before .before .before .before .args .v) (sign (c .before .before .before .before .before .before .before .before .args .lead .0)) (c .before .before .before .before .before .before .before .before .args .es) (c .before .before .before .before .before .before .before .before .args .bucket) z (c .before .before .before .before .before .before .before .before .pre .3) (c .before .before .before .before .before .before .before .before .pre .2) (c .before .before .before .before .before .before .before .before .pre .1 .buildable .reduced) ((c .before .before .before .loop .inv) u z) (c .before .before .loop-test .taken) (laws.proved (c .before .same-node .ensures) (c .if1 .taken))
 
 add-word : tie.Need-add-word Inv-loop μ-loop
-add-word c = let w = ((c .before .before .before .loop .inv) (c .before .before .before .before .before .before .before .before .args .head .used) (c .before .before .before .before .before .before .before .before .pre .0 .sound)) .within in omega (arith, (c .before .before .loop-test .taken), (c .before .before .before .before .before .before .before .before .pre .0 .allowed .most-nodes), (c .before .before .before .before .before .before .before .before .pre .0 .sound .records .fits))
+add-word c = let w = ((c .before .before .before .loop .inv) (c .before .before .before .before .before .before .before .before .pre .1 .used) (c .before .before .before .before .before .before .before .before .pre .1 .sound)) .within in omega (arith, (c .before .before .loop-test .taken), (c .before .before .before .before .before .before .before .before .pre .0 .most-nodes), (c .before .before .before .before .before .before .before .before .pre .1 .sound .records .fits))
 
 word-requires-2 : tie.Need-word-requires-2 Inv-loop μ-loop
-word-requires-2 c κs = let w = ((c .before .before .before .loop .inv) (c .before .before .before .before .before .before .before .before .args .head .used) (c .before .before .before .before .before .before .before .before .pre .0 .sound)) .within in omega (arith, (c .before .before .loop-test .taken), (c .before .before .before .before .before .before .before .before .pre .0 .allowed .indexed), (c .before .before .before .before .before .before .before .before .pre .0 .sound .records .fits))
+word-requires-2 c κs = let w = ((c .before .before .before .loop .inv) (c .before .before .before .before .before .before .before .before .pre .1 .used) (c .before .before .before .before .before .before .before .before .pre .1 .sound)) .within in omega (arith, (c .before .before .loop-test .taken), (c .before .before .before .before .before .before .before .before .pre .0 .indexed), (c .before .before .before .before .before .before .before .before .pre .1 .sound .records .fits))
 
 loop-less : tie.Need-loop-less Inv-loop μ-loop
-loop-less c = look-less (store (now (c .before .before .before .before .before .before .before .before .before .args .nodes)) (now (c .before .before .before .before .before .before .before .before .before .args .children)) (now (c .before .before .before .before .before .before .before .before .before .args .cuts))) (now (c .before .before .before .before .before .before .before .before .before .args .index)) (c .before .before .before .before .before .before .before .before .before .args .head .used) (c .before .before .before .before .before .before .before .before .before .args .v) (sign (c .before .before .before .before .before .before .before .before .before .args .lead .0)) (c .before .before .before .before .before .before .before .before .before .args .es) (c .before .before .before .before .before .before .before .before .before .args .bucket) (c .before .before .before .before .before .before .before .before .before .pre .0 .sound) (c .before .before .before .before .before .before .before .before .before .pre .3) (c .before .before .before .loop-test .taken) ((c .before .before .before .before .loop .inv) (c .before .before .before .before .before .before .before .before .before .args .head .used) (c .before .before .before .before .before .before .before .before .before .pre .0 .sound)) (c .word2 .ensures .0)
+loop-less c = look-less (store (now (c .before .before .before .before .before .before .before .before .before .args .nodes)) (now (c .before .before .before .before .before .before .before .before .before .args .children)) (now (c .before .before .before .before .before .before .before .before .before .args .cuts))) (now (c .before .before .before .before .before .before .before .before .before .args .index)) (c .before .before .before .before .before .before .before .before .before .pre .1 .used) (c .before .before .before .before .before .before .before .before .before .args .v) (sign (c .before .before .before .before .before .before .before .before .before .args .lead .0)) (c .before .before .before .before .before .before .before .before .before .args .es) (c .before .before .before .before .before .before .before .before .before .args .bucket) (c .before .before .before .before .before .before .before .before .before .pre .1 .sound) (c .before .before .before .before .before .before .before .before .before .pre .3) (c .before .before .before .loop-test .taken) ((c .before .before .before .before .loop .inv) (c .before .before .before .before .before .before .before .before .before .pre .1 .used) (c .before .before .before .before .before .before .before .before .before .pre .1 .sound)) (c .word2 .ensures .0)
 
 loop-again : tie.Need-loop-again Inv-loop μ-loop
 loop-again c = λ u z. look-next (store (now (c .before .before .before .before .before .before .before .before .before .args .nodes)) (now (c .before .before .before .before .before .before .before .before .before .args .children)) (now (c .before .before .before .before .before .before .before .before .before .args .cuts))) (now (c .before .before .before .before .before .before .before .before .before .args .index)) u (c .before .before .before .before .before .before .before .before .before .args .v) (sign (c .before .before .before .before .before .before .before .before .before .args .lead .0)) (c .before .before .before .before .before .before .before .before .before .args .es) (c .before .before .before .before .before .before .before .before .before .args .bucket) z (c .before .before .before .before .before .before .before .before .before .pre .3) (c .before .before .before .loop-test .taken) ((c .before .before .before .before .loop .inv) u z) (c .word2 .ensures .0) (laws.refuted (c .before .before .same-node .ensures) (c .before .if1 .left))
 
 returns-2 : tie.Need-returns-2 Inv-loop μ-loop
-returns-2 c = look-none (store (now (c .before .before .before .before .before .before .args .nodes)) (now (c .before .before .before .before .before .before .args .children)) (now (c .before .before .before .before .before .before .args .cuts))) (now (c .before .before .before .before .before .before .args .index)) (c .before .before .before .before .before .before .args .head .used) (c .before .before .before .before .before .before .args .v) (sign (c .before .before .before .before .before .before .args .lead .0)) (c .before .before .before .before .before .before .args .es) (c .before .before .before .before .before .before .args .bucket) (c .before .before .before .before .before .before .pre .0 .sound) (c .before .before .before .before .before .before .pre .3) (c .before .before .before .before .before .before .pre .2) (c .before .before .before .before .before .before .pre .1 .reduced) ((c .before .loop .inv) (c .before .before .before .before .before .before .args .head .used) (c .before .before .before .before .before .before .pre .0 .sound)) (omega arith)
+returns-2 c = λ u z. look-none (store (now (c .before .before .before .before .before .before .args .nodes)) (now (c .before .before .before .before .before .before .args .children)) (now (c .before .before .before .before .before .before .args .cuts))) (now (c .before .before .before .before .before .before .args .index)) u (c .before .before .before .before .before .before .args .v) (sign (c .before .before .before .before .before .before .args .lead .0)) (c .before .before .before .before .before .before .args .es) (c .before .before .before .before .before .before .args .bucket) z (c .before .before .before .before .before .before .pre .3) (c .before .before .before .before .before .before .pre .2) (c .before .before .before .before .before .before .pre .1 .buildable .reduced) ((c .before .loop .inv) u z) (omega arith)
 
 pub find-spec : {M : Type 1} → statement M
 find-spec =

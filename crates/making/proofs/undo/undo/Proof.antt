@@ -10,10 +10,10 @@ use Rattle.making.proofs.undo.undo.Tie as tie
 use Rattle.table.specs.Layout.{store}
 
 abbrev Inv-loop : tie.InvT-loop
-Inv-loop nodes₀ children₀ cuts₀ index₀ used now₀ nodes children cuts index now = (length nodes ≡ length nodes₀) × (length children ≡ length children₀) × (length cuts ≡ length cuts₀) × (length index ≡ length index₀) × (used ≤ now .used) × TakenBack (now .used) now₀ (store nodes₀ children₀ cuts₀) now (store nodes children cuts) index
+Inv-loop nodes₀ children₀ cuts₀ index₀ used now₀ nodes children cuts index now = (length nodes ≡ length nodes₀) × (length children ≡ length children₀) × (length cuts ≡ length cuts₀) × (length index ≡ length index₀) × (used ≤ now .nodes) × TakenBack (now .nodes) now₀ (store nodes₀ children₀ cuts₀) now (store nodes children cuts) index
 
 abbrev μ-loop : tie.MeasureT-loop
-μ-loop nodes₀ children₀ cuts₀ index₀ used now₀ nodes children cuts index now = now .used
+μ-loop nodes₀ children₀ cuts₀ index₀ used now₀ nodes children cuts index now = now .nodes
 
 loop-holds : tie.Need-loop-holds Inv-loop μ-loop
 loop-holds c = (refl, refl, refl, refl, (c .before .before .before .pre .1), record { lent = (c .before .before .before .pre .0); used-is = refl; stays = stays-here })

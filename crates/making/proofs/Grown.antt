@@ -13,10 +13,10 @@ use Rattle.table.specs.Layout.{countAt, room, start, Store}
 use Rattle.table.specs.Indexed.{bucketAt, LastIn}
 use Rattle.table.specs.Lent.{Rules, SameRecord, SoundLent}
 use Rattle.table.specs.Held.{nodeAt, held}
-use Rattle.growth.specs.Growing.{OneMore}
+use Rattle.making.specs.Growing.{OneMore}
 use Rattle.table.proofs.Laws as laws
-use Rattle.growth.proofs.Lasts.{last-new, last-join, last-agrees}
-use Rattle.growth.proofs.Frames as frames
+use Rattle.making.proofs.Lasts.{last-new, last-join, last-agrees}
+use Rattle.making.proofs.Frames as frames
 
 module _ {u e : ℕ} {st : Store} {index : List ℕ} {st′ : Store} {index′ : List ℕ}
     (s : SoundLent st index u) (at-end : e ≡ start (st .nodes) u) (more : OneMore u e st index st′ index′) where
@@ -56,7 +56,7 @@ module _ {u e : ℕ} {st : Store} {index : List ℕ} {st′ : Store} {index′ :
     head c l = go (ℕ-discrete c b)
       where
         go : Dec (c ≡ b) → LastIn (bucketAt st′) c (suc u) (getD index′ c 0)
-        go (yes q) = subst (LastIn (bucketAt st′) c (suc u)) (sym (laws.at index′ c b q ∙ more .indexed .head)) (last-new (sym q))
+        go (yes q) = subst (LastIn (bucketAt st′) c (suc u)) (sym (laws.at index′ c b q ∙ more .indexed .front)) (last-new (sym q))
         go (no q) = subst (LastIn (bucketAt st′) c (suc u)) (sym (word-other c q (λ x. omega arith))) (last-join (λ x. q (sym x)) (last-agrees bucket-same (s .indexed .heads c l)))
 
     -- the node before each in its bucket

@@ -15,7 +15,7 @@ use Rattle.table.specs.Layout.{varAt, countAt, firstAt, kidAt, cutAt, room, sta
 use Rattle.table.specs.Indexed.{hashTo, bucketAt}
 use Rattle.table.specs.Lent.{Stands, KidsStand, Cuts, Blank, Rules, SameRun, SameRecord}
 use Rattle.table.specs.Held.{edgesFrom, edgesAt, nodeAt, held}
-use Rattle.growth.specs.Growing.{OneMore}
+use Rattle.making.specs.Growing.{OneMore}
 use Rattle.table.proofs.Laws as laws
 use Rattle.table.proofs.Whole.{bucket-lt}
 use Rattle.table.proofs.Bridge.{range-edges, bool-edges}

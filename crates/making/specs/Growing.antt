@@ -23,7 +23,7 @@ pub record MoreWords (n e c : ℕ) (st : Store) (st′ : Store) : Type 0 where
 -- The second index has node n in front of bucket b; the first does not have it.
 pub record MoreIndex (r n b : ℕ) (index index′ : List ℕ) : Type 0 where
   pub broad : length index′ ≡ length index
-  pub head : getD index′ b 0 ≡ suc n
+  pub front : getD index′ b 0 ≡ suc n
   pub next : getD index′ (r + n) 0 ≡ getD index b 0
   pub no-next : getD index (r + n) 0 ≡ 0
   pub other : (i : ℕ) → (i ≡ b → ⊥) → (i ≡ r + n → ⊥) → getD index′ i 0 ≡ getD index i 0

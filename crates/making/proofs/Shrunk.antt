@@ -10,10 +10,10 @@ use lib.IntN.{ℤ, pos}
 use Rattle.table.specs.Layout.{countAt, firstAt, kidAt, cutAt, room, start, Store}
 use Rattle.table.specs.Indexed.{bucketAt, LastIn}
 use Rattle.table.specs.Lent.{Rules, SoundLent}
-use Rattle.growth.specs.Growing.{OneMore}
+use Rattle.making.specs.Growing.{OneMore}
 use Rattle.table.proofs.Laws as laws
-use Rattle.growth.proofs.Lasts.{last-leave, last-agrees}
-use Rattle.growth.proofs.Frames as frames
+use Rattle.making.proofs.Lasts.{last-leave, last-agrees}
+use Rattle.making.proofs.Frames as frames
 
 module _ {u e : ℕ} {st : Store} {index : List ℕ} {st′ : Store} {index′ : List ℕ}
     (t : SoundLent st′ index′ (suc u)) (at-last : e ≡ firstAt (st′ .nodes) u) (more : OneMore u e st index st′ index′) where
