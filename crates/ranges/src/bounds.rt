@@ -2,8 +2,10 @@
 use super::places::TOP;
 use super::places::position_of_key;
 ghost use mathlib.Core.Path.{_≡_};
+ghost use mathlib.Core.Bool.{true};
 ghost use Rattle.ranges.specs.Line.{position};
 ghost use Rattle.ranges.specs.Bounding.{firstPlace, lastPlace};
+ghost use Rattle.ranges.specs.declared.bounds.Bound.the-variants.{Open};
 
 // One end of a range: open, with a key, or up to a key but without it.
 pub enum Bound {
@@ -42,5 +44,27 @@ pub fn last_of(upper: Bound) -> u64
         Bound::Open => TOP,
         Bound::Includes(v) => position_of_key(v),
         Bound::Excludes(v) => position_of_key(v) - 1,
+    }
+}
+
+// "Both ends open".
+pub fn both_open(lower: Bound, upper: Bound) -> bool
+    ensures { λ r. ⌜ (r ≡ true → (lower ≡ Open) × (upper ≡ Open)) ⌝ }
+{
+    match lower {
+        Bound::Open => is_open(upper),
+        Bound::Includes(_) => false,
+        Bound::Excludes(_) => false,
+    }
+}
+
+// One open end.
+fn is_open(bound: Bound) -> bool
+    ensures { λ r. ⌜ (r ≡ true → bound ≡ Open) ⌝ }
+{
+    match bound {
+        Bound::Open => true,
+        Bound::Includes(_) => false,
+        Bound::Excludes(_) => false,
     }
 }

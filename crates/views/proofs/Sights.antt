@@ -3,8 +3,9 @@ use mathlib.Core.Path.{_≡_, refl, sym, _∙_, ap, ap₂, subst}
 use mathlib.Core.Bool.{Bool, true, false}
 use mathlib.Core.Logic.{⊎-elim}
 use mathlib.Core.List.{List}
-use Prim.Native.Nat.{ℕ, zero, suc, _+_, _-_, _/_, _≤_, _<_}
+use Prim.Native.Nat.{ℕ, zero, suc, _+_, _-_, _*_, _/_, _≤_, _<_, min}
 use native.Mathlib.Omega.{arith}
+use native.Mathlib.Decide.{ℕ-discrete}
 use native.Mathlib.Numerals.{add-one}
 use borrow.Author.Tests.{lt-ltb, le-ltb, eqb-true, eqb-false, eq-eqb, ne-eqb}
 use lib.Dec.{eqb}
@@ -19,6 +20,7 @@ use Rattle.diagram.specs.Sound.{Child}
 use Rattle.diagram.proofs.Piecewise.{rising-down}
 use Rattle.diagram.proofs.Numbered.{count-run, each-run, run-shift, map-run}
 use Rattle.diagram.proofs.Runs.{count-most}
+use Rattle.diagram.proofs.Lookup.{at-end}
 use Rattle.diagram.proofs.Readings.{bool-top}
 use Rattle.diagram.proofs.Cofactors.{edge-own, edge-other, edges-of, edges-rising}
 use Rattle.table.specs.Layout.{varAt, countAt, firstAt, kidAt, cutAt, cutPosition, start, Store}
@@ -29,7 +31,7 @@ use Rattle.table.proofs.Laws as laws
 use Rattle.table.proofs.Scan.{table-length}
 use Rattle.table.proofs.Bridge.{edges-run, range-edges, bool-edges, table-at, ordered}
 use Rattle.table.proofs.Promises.{edges-fit}
-use Rattle.views.specs.Seeing.{Readable, Asked, childSeen, cutSeen, seen, Inside, Views}
+use Rattle.views.specs.Seeing.{Readable, Asked, childSeen, cutSeen, seen, Inside, Sees, Views}
 use Rattle.views.specs.declared.View.{View}
 
 module _ (children : List ℕ) (cuts : List ℤ) (v : ℕ) (w : View) where
@@ -216,19 +218,46 @@ readable st index u a s = record { fits = omega (arith, s .records .fits); cut-e
 pub asked-all : {t : Table} {u id : ℕ} → KnownTo u id → Asked t u (variables + 1) id
 asked-all k = record { known = k; ahead = omega arith }
 
--- what the functions read, as the laws above want it
 pub one-more : {n : ℕ} → 1 ≤ n → (n ≡ 1 → ⊥) → 1 < n
 one-more h q = omega (arith, q)
 
-module _ {st : Store} {u id x y : ℕ} (r : Readable st u) (a : 2 ≤ id) (b : KnownTo u id) (wide : x ≡ id) where
-  pub variable-is : y ≡ varAt (st .nodes) (x / 2 - 1) → (y ≡ (at (held st u) (ref id)) .var) × (y < variables)
-  variable-is e =
-      let q = e ∙ ap (λ (z : ℕ). varAt (st .nodes) (z / 2 - 1)) wide in
-      (q ∙ sym (node-var st u id r a b), omega (arith, q, node-rules st u id r a b .known))
+-- A terminal is later than each variable.
+end-later : (t : Table) (v id : ℕ) → id < 2 → v < variables → v < (at t (ref id)) .var
+end-later t v id e hv = let r : ref id ≡ 0 = omega arith in omega (arith, ap (λ (n : ℕ). (at t n) .var) r ∙ ap (λ (nd : Node). nd .var) (at-end t))
 
-  pub other-seen : {v : ℕ} {w : View} → y ≡ varAt (st .nodes) (x / 2 - 1) → (y ≡ v → ⊥) → w .id .0 ≡ id → w .count ≡ 1 → Views st u v id w
-  other-seen {v} {w} e d i k = views-other st u id r a b v w (λ q. d (e ∙ (ap (λ (z : ℕ). varAt (st .nodes) (z / 2 - 1)) wide ∙ q))) i k
+-- What the functions read of the records, as the laws above want it.
+module _ {st : Store} {u : ℕ} (r : Readable st u) (id : ℕ) (b : KnownTo u id) where
+  -- the record of a known id is there
+  pub record-inside : ref id * 4 ≤ length (st .nodes)
+  record-inside = omega (arith, r .fits)
 
-  pub own-seen : {v : ℕ} {w : View} → y ≡ varAt (st .nodes) (x / 2 - 1) → y ≡ v → w .id .0 ≡ id → w .first ≡ firstAt (st .nodes) (x / 2 - 1) → w .count ≡ countAt (st .nodes) (x / 2 - 1) → Views st u v id w
-  own-seen {v} {w} e d i f k =
-      views-own st u id r a b v w (sym (ap (λ (z : ℕ). varAt (st .nodes) (z / 2 - 1)) wide) ∙ (sym e ∙ d)) i (f ∙ ap (λ (z : ℕ). firstAt (st .nodes) (z / 2 - 1)) wide) (k ∙ ap (λ (z : ℕ). countAt (st .nodes) (z / 2 - 1)) wide)
+  module _ {y : ℕ} (a : 2 ≤ id) (e : y ≡ varAt (st .nodes) (ref id - 1)) where
+    pub variable-is : y ≡ (at (held st u) (ref id)) .var
+    variable-is = e ∙ sym (node-var st u id r a b)
+
+    pub variable-known : y < variables
+    variable-known = omega (arith, e, node-rules st u id r a b .known)
+
+  pub sees-views : {v : ℕ} {w : View} → v < variables → Sees (st .nodes) v id w → Views st u v id w
+  sees-views {v} {w} hv s = ⊎-elim end (λ a. node a (ℕ-discrete (varAt (st .nodes) (ref id - 1)) v)) (laws.split id 2)
+    where
+      end : id < 2 → Views st u v id w
+      end l =
+          let k = s .other (λ a e. omega arith) in
+          record {
+            inside = record { some = omega arith; most = omega arith; within = λ h. absurd (omega arith) };
+            edges = seen-one (st .children) (st .cuts) v w k ∙ (ap last (childSeen-own (st .children) w 0 k ∙ s .same-id) ∙ sym (edge-other (held st u) v id (λ q. omega (arith, end-later (held st u) v id l hv))));
+          }
+
+      node : 2 ≤ id → Dec (varAt (st .nodes) (ref id - 1) ≡ v) → Views st u v id w
+      node a (yes e) = views-own st u id r a b v w e (s .same-id) (s .own a e .0) (s .own a e .1)
+      node a (no n) = views-other st u id r a b v w n (s .same-id) (s .other (λ _ e. n e))
+
+-- The earlier of two variables.
+pub first-is : {st : Store} {u : ℕ} → Readable st u → (x y : ℕ) {v : ℕ} → 2 ≤ x → KnownTo u x → 2 ≤ y → KnownTo u y → v ≡ min (varAt (st .nodes) (ref x - 1)) (varAt (st .nodes) (ref y - 1))
+    → (v ≡ min ((at (held st u) (ref x)) .var) ((at (held st u) (ref y)) .var)) × (v < variables)
+first-is {st} {u} r x y a k b l e =
+    let p : varAt (st .nodes) (ref x - 1) ≡ (at (held st u) (ref x)) .var = variable-is r x k a refl in
+    let q : varAt (st .nodes) (ref y - 1) ≡ (at (held st u) (ref y)) .var = variable-is r y l b refl in
+    let p′ : varAt (st .nodes) (ref x - 1) < variables = variable-known r x k a refl in
+    (e ∙ (λ i. min (p i) (q i)), omega arith)

@@ -13,7 +13,7 @@ use Rattle.diagram.specs.Table.{variables, isRange, Table, at}
 use Rattle.diagram.specs.Cofactor.{edgesOf}
 use Rattle.diagram.specs.Room.{mostEdges}
 use Rattle.diagram.specs.Sound.{Sound}
-use Rattle.table.specs.Layout.{kidAt, cutAt, cutPosition, start, Store}
+use Rattle.table.specs.Layout.{varAt, countAt, firstAt, kidAt, cutAt, cutPosition, start, Store}
 use Rattle.table.specs.Lent.{Rules}
 use Rattle.table.specs.Held.{held}
 use Rattle.views.specs.declared.View.{View}
@@ -52,6 +52,12 @@ pub record Inside (e : ℕ) (w : View) : Type 0 where
   pub some : 1 ≤ w .count
   pub most : w .count ≤ mostEdges
   pub within : 1 < w .count → w .first + w .count ≤ e
+
+-- The view of an id at the variable v, by the words of its record: of a node that tests v its own edges, of any other id the id itself.
+pub record Sees (nodes : List ℕ) (v id : ℕ) (w : View) : Type 0 where
+  pub same-id : w .id .0 ≡ id
+  pub own : 2 ≤ id → varAt nodes (ref id - 1) ≡ v → (w .first ≡ firstAt nodes (ref id - 1)) × (w .count ≡ countAt nodes (ref id - 1))
+  pub other : (2 ≤ id → varAt nodes (ref id - 1) ≡ v → ⊥) → w .count ≡ 1
 
 -- A view of the edges of an id at the variable v.
 pub record Views (st : Store) (u v id : ℕ) (w : View) : Type 0 where

@@ -1,16 +1,13 @@
 // The edges of an id at a variable, read where they stand in the table: no operation copies a node to look at it. `NodeId::negate` of the
 // source is at work here, "Forgetting to negate a child when its parent id is complemented" being one of document 01's faults.
 ghost use mathlib.Core.Path.{_≡_};
-ghost use mathlib.Core.Bool.{_||_};
-ghost use Prim.Native.Nat.{_+_, _≤_, _<_, min};
-ghost use lib.Dec.{eqb};
+ghost use mathlib.Core.Bool.{_&&_, _||_};
+ghost use Prim.Native.Nat.{_+_, _-_, _*_, _≤_, _<_, min};
+ghost use lib.Dec.{ltb, eqb};
 ghost use lib.ListN.{length};
 ghost use Rattle.ids.specs.Id.{FALSE, ref, flip};
-ghost use Rattle.ids.specs.Index.{KnownTo};
-ghost use Rattle.diagram.specs.Table.{variables, at};
-ghost use Rattle.table.specs.Held.{held};
-ghost use Rattle.views.specs.Seeing.{Readable, Inside, Views, beyond, childSeen, cutSeen};
-ghost use Rattle.table.specs.Layout.{store};
+ghost use Rattle.views.specs.Seeing.{Inside, Sees, beyond, childSeen, cutSeen};
+ghost use Rattle.table.specs.Layout.{varAt};
 use ids::NodeId;
 use table::words::child_at;
 use table::words::count_of;
@@ -30,44 +27,38 @@ pub struct View {
 pub const END: usize = 8589934593;
 
 // The variable of the node of an id that is no terminal.
-pub fn variable(nodes: &[u32], children: &[u32], cuts: &[i64], used: usize, id: NodeId) -> usize
-    requires { ⌜ (Readable (store (now nodes) (now children) (now cuts)) used) × (2 ≤ id .0) × (KnownTo used (id .0)) ⌝ }
-    ensures { λ r. ⌜ (r ≡ (at (held (store (now (nodes .entry)) (now (children .entry)) (now (cuts .entry))) used) (ref (id .0))) .var) × (r < variables) ⌝ }
+pub fn variable(nodes: &[u32], id: NodeId) -> usize
+    requires { ⌜ (2 ≤ id .0) × (ref (id .0) * 4 ≤ length (now nodes)) ⌝ }
+    ensures { λ r. ⌜ r ≡ varAt (now (nodes .entry)) (ref (id .0) - 1) ⌝ }
 {
     var_of(nodes, wide(id.0) / 2 - 1)
 }
 
 // The earlier of two such variables: the one that an operation on both ids goes down by.
-pub fn first_variable(
-    nodes: &[u32],
-    children: &[u32],
-    cuts: &[i64],
-    used: usize,
-    x: NodeId,
-    y: NodeId,
-) -> usize
-    requires { ⌜ (Readable (store (now nodes) (now children) (now cuts)) used) × (2 ≤ x .0) × (KnownTo used (x .0)) × (2 ≤ y .0) × (KnownTo used (y .0)) ⌝ }
-    ensures { λ r. ⌜ (r ≡ min ((at (held (store (now (nodes .entry)) (now (children .entry)) (now (cuts .entry))) used) (ref (x .0))) .var) ((at (held (store (now (nodes .entry)) (now (children .entry)) (now (cuts .entry))) used) (ref (y .0))) .var)) × (r < variables) ⌝ }
+pub fn first_variable(nodes: &[u32], x: NodeId, y: NodeId) -> usize
+    requires { ⌜ (2 ≤ x .0) × (ref (x .0) * 4 ≤ length (now nodes)) × (2 ≤ y .0) × (ref (y .0) * 4 ≤ length (now nodes)) ⌝ }
+    ensures { λ r. ⌜ r ≡ min (varAt (now (nodes .entry)) (ref (x .0) - 1)) (varAt (now (nodes .entry)) (ref (y .0) - 1)) ⌝ }
 {
-    let v = variable(nodes, children, cuts, used, x);
-    let w = variable(nodes, children, cuts, used, y);
+    let v = variable(nodes, x);
+    let w = variable(nodes, y);
     if v < w {
         return v;
     }
     w
 }
 
-// The view of an id that is no terminal, at a variable that is not later than its own.
-pub fn view_of(
-    nodes: &[u32],
-    children: &[u32],
-    cuts: &[i64],
-    used: usize,
-    id: NodeId,
-    v: usize,
-) -> View
-    requires { ⌜ (Readable (store (now nodes) (now children) (now cuts)) used) × (2 ≤ id .0) × (KnownTo used (id .0)) ⌝ }
-    ensures { λ r. ⌜ Views (store (now (nodes .entry)) (now (children .entry)) (now (cuts .entry))) used v (id .0) r ⌝ }
+// Whether an id tests a variable before v first. A terminal tests none.
+pub fn is_before(nodes: &[u32], id: NodeId, v: usize) -> bool
+    requires { ⌜ ref (id .0) * 4 ≤ length (now nodes) ⌝ }
+    ensures { λ r. ⌜ r ≡ (ltb 1 (id .0) && ltb (varAt (now (nodes .entry)) (ref (id .0) - 1)) v) ⌝ }
+{
+    1 < id.0 && variable(nodes, id) < v
+}
+
+// The view of an id that is no terminal at a variable: its edges where it tests the variable, and else the id itself.
+pub fn view_of(nodes: &[u32], id: NodeId, v: usize) -> View
+    requires { ⌜ (2 ≤ id .0) × (ref (id .0) * 4 ≤ length (now nodes)) ⌝ }
+    ensures { λ r. ⌜ Sees (now (nodes .entry)) v (id .0) r ⌝ }
 {
     let n = wide(id.0) / 2 - 1;
     if var_of(nodes, n) != v {
@@ -82,6 +73,21 @@ pub fn view_of(
         count: count_of(nodes, n),
         id,
     }
+}
+
+// The same of any id: a terminal tests no variable.
+pub fn view_at(nodes: &[u32], id: NodeId, v: usize) -> View
+    requires { ⌜ ref (id .0) * 4 ≤ length (now nodes) ⌝ }
+    ensures { λ r. ⌜ Sees (now (nodes .entry)) v (id .0) r ⌝ }
+{
+    if id.0 < 2 {
+        return View {
+            first: 0,
+            count: 1,
+            id,
+        };
+    }
+    view_of(nodes, id, v)
 }
 
 // Child j of a view.
