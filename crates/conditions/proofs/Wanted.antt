@@ -27,7 +27,7 @@ use Rattle.making.specs.declared.edges.Edges as built
 use Rattle.making.specs.declared.nodes.Used.{Used}
 use Rattle.making.specs.declared.nodes.Made.{Made}
 use Rattle.making.specs.Building.{Building, piecesOf}
-use Rattle.making.specs.Outcome.{Outcome, Untouched, Buildable}
+use Rattle.making.specs.Outcome.{Creates, Buildable}
 use Rattle.conditions.proofs.Terminals.{reduced-between, terminals-buildable, terminals-settle}
 use Rattle.table.specs.Layout.{Store}
 
@@ -54,33 +54,28 @@ range-wanted t v b = rw (b .first, b .last)
 pub key-handed : {op : Comparison} {key : ℤ} {c : Compared} → SFits w32 key → Compares op (toZ w32 (ofZ w32 key)) c → Compares op key c
 key-handed {key = key} f k = rw (toZ-ofZ w32 key f) at k
 
--- What a making function of one node promises.
-abbrev pub Promised : Used → Store → List ℕ → Store → List ℕ → Table × ℕ → Made → Type 0
-Promised h st index st′ index′ want r =
-    Outcome h want r st st′ index′ × (r .ok ≡ false → Untouched st index st′ index′)
-
 module _ {h : Used} {st : Store} {index : List ℕ} {st′ : Store} {index′ : List ℕ} where
-  -- What is promised under one name is promised under another.
-  pub promised-as : {want other : Table × ℕ} {r : Made} → Promised h st index st′ index′ want r → want ≡ other → Promised h st index st′ index′ other r
-  promised-as {r = r} p e = subst (λ (w : Table × ℕ). Promised h st index st′ index′ w r) e p
+  -- What is made under one name is made under another.
+  pub creates-as : {want other : Table × ℕ} {r : Made} → Creates h want r st index st′ index′ → want ≡ other → Creates h other r st index st′ index′
+  creates-as {r = r} p e = subst (λ (w : Table × ℕ). Creates h w r st index st′ index′) e p
 
-  module _ (t : Table) (v : ℕ) {op : Comparison} {key : ℤ} {c : Compared} (k : Compares op key c) {r : Made} (p : Promised h st index st′ index′ (create-node t v (map terminal (between (c .range .first) (c .range .last) (topOf v)))) r) where
+  module _ (t : Table) (v : ℕ) {op : Comparison} {key : ℤ} {c : Compared} (k : Compares op key c) {r : Made} (p : Creates h (create-node t v (map terminal (between (c .range .first) (c .range .last) (topOf v)))) r st index st′ index′) where
     -- A comparison that holds inside its range is that range,
-    pub inside-wanted : c .outside ≡ false → Promised h st index st′ index′ (comparison t v op key) r
+    pub inside-wanted : c .outside ≡ false → Creates h (comparison t v op key) r st index st′ index′
     unfolding comparison
-    inside-wanted e = let o = sym (k .side) ∙ e in rw o (promised-as p (range-wanted t v (k .between)))
+    inside-wanted e = let o = sym (k .side) ∙ e in rw o (creates-as p (range-wanted t v (k .between)))
 
     -- != is it flipped,
-    pub outside-wanted : c .outside ≡ true → r .ok ≡ true → (id : NodeId) → id .0 ≡ flip (r .id .0) → Promised h st index st′ index′ (comparison t v op key) (record { ok = true; id = id; used = r .used })
+    pub outside-wanted : c .outside ≡ true → r .ok ≡ true → (id : NodeId) → id .0 ≡ flip (r .id .0) → Creates h (comparison t v op key) (record { ok = true; id = id; used = r .used }) st index st′ index′
     unfolding comparison
     outside-wanted e y id q =
         let o = sym (k .side) ∙ e in
-        let w = promised-as p (range-wanted t v (k .between)) .0 in
-        rw o (record { lent = w .lent; stays = w .stays; table = λ x. w .table y; id = λ x. q ∙ ap flip (w .id y); full = λ x. absurd (clash x refl) }, λ x. absurd (clash x refl))
+        let w = creates-as p (range-wanted t v (k .between)) .outcome in
+        rw o (record { outcome = record { lent = w .lent; stays = w .stays; table = λ x. w .table y; id = λ x. q ∙ ap flip (w .id y); full = λ x. absurd (clash x refl) }; untouched = λ x. absurd (clash x refl) })
 
     -- and where there is no room for it there is none for either.
-    pub full-wanted : r .ok ≡ false → Promised h st index st′ index′ (comparison t v op key) r
+    pub full-wanted : r .ok ≡ false → Creates h (comparison t v op key) r st index st′ index′
     unfolding comparison
     full-wanted n =
-        let w = promised-as p (range-wanted t v (k .between)) in
-        (record { lent = w .0 .lent; stays = w .0 .stays; table = λ x. absurd (clash n x); id = λ x. absurd (clash n x); full = w .0 .full }, w .1)
+        let w = creates-as p (range-wanted t v (k .between)) in
+        record { outcome = record { lent = w .outcome .lent; stays = w .outcome .stays; table = λ x. absurd (clash n x); id = λ x. absurd (clash n x); full = w .outcome .full }; untouched = w .untouched }

@@ -1,7 +1,6 @@
 // Conditions on one variable. Document 01, step 3; `from_range`, `from_string` and `from_bool` of the source. Each makes at most one node,
 // over the terminals.
 ghost use mathlib.Core.Path.{_≡_};
-ghost use mathlib.Core.Bool.{false};
 ghost use Prim.Native.Nat.{_-_, _≤_, _<_};
 ghost use Rattle.ranges.specs.Line.{top};
 ghost use Rattle.diagram.specs.Table.{firstBoolean, variables, topOf};
@@ -9,7 +8,7 @@ ghost use Rattle.diagram.specs.Cofactor.{map};
 ghost use Rattle.algebra.specs.Making.{create-node};
 ghost use Rattle.algebra.specs.Conditions.{between, terminal, from-range, comparison, from-bool};
 ghost use Rattle.making.specs.Building.{Building, piecesOf};
-ghost use Rattle.making.specs.Outcome.{Lent, Outcome, Untouched, tableOf};
+ghost use Rattle.making.specs.Outcome.{Lent, Creates, tableOf};
 ghost use Rattle.conditions.specs.Few.{few};
 ghost use Rattle.table.specs.Layout.{store};
 use ids::NodeId;
@@ -17,8 +16,8 @@ use making::edges::Edge;
 use making::edges::Edges;
 use making::nodes::Made;
 use making::nodes::Used;
-use making::nodes::create_node;
 use making::nodes::create_pair;
+use making::nodes::settle;
 use ranges::bounds::Bound;
 use ranges::bounds::Comparison;
 use ranges::places::TOP;
@@ -81,10 +80,10 @@ fn within(
     range: Range,
 ) -> Made
     requires { ⌜ (Lent used (store (now nodes) (now children) (now cuts)) (now index)) × (v < firstBoolean) × (range .first ≤ top) × (range .last ≤ top) ⌝ }
-    ensures { λ r. ⌜ (Outcome used (create-node (tableOf used (store (now (nodes .entry)) (now (children .entry)) (now (cuts .entry)))) v (map terminal (between (range .first) (range .last) (topOf v)))) r (store (now (nodes .entry)) (now (children .entry)) (now (cuts .entry))) (store (now (nodes .exit)) (now (children .exit)) (now (cuts .exit))) (now (index .exit))) × (r .ok ≡ false → Untouched (store (now (nodes .entry)) (now (children .entry)) (now (cuts .entry))) (now (index .entry)) (store (now (nodes .exit)) (now (children .exit)) (now (cuts .exit))) (now (index .exit))) ⌝ }
+    ensures { λ r. ⌜ Creates used (create-node (tableOf used (store (now (nodes .entry)) (now (children .entry)) (now (cuts .entry)))) v (map terminal (between (range .first) (range .last) (topOf v)))) r (store (now (nodes .entry)) (now (children .entry)) (now (cuts .entry))) (now (index .entry)) (store (now (nodes .exit)) (now (children .exit)) (now (cuts .exit))) (now (index .exit)) ⌝ }
 {
     let es = edges_of(range);
-    create_node(nodes, children, cuts, index, used, v, es)
+    settle(nodes, children, cuts, index, used, v, es)
 }
 
 // "A range by two bounds".
@@ -99,7 +98,7 @@ pub fn from_range(
     upper: Bound,
 ) -> Made
     requires { ⌜ (Lent used (store (now nodes) (now children) (now cuts)) (now index)) × (v < firstBoolean) ⌝ }
-    ensures { λ r. ⌜ (Outcome used (from-range (tableOf used (store (now (nodes .entry)) (now (children .entry)) (now (cuts .entry)))) v lower upper) r (store (now (nodes .entry)) (now (children .entry)) (now (cuts .entry))) (store (now (nodes .exit)) (now (children .exit)) (now (cuts .exit))) (now (index .exit))) × (r .ok ≡ false → Untouched (store (now (nodes .entry)) (now (children .entry)) (now (cuts .entry))) (now (index .entry)) (store (now (nodes .exit)) (now (children .exit)) (now (cuts .exit))) (now (index .exit))) ⌝ }
+    ensures { λ r. ⌜ Creates used (from-range (tableOf used (store (now (nodes .entry)) (now (children .entry)) (now (cuts .entry)))) v lower upper) r (store (now (nodes .entry)) (now (children .entry)) (now (cuts .entry))) (now (index .entry)) (store (now (nodes .exit)) (now (children .exit)) (now (cuts .exit))) (now (index .exit)) ⌝ }
 {
     let range = Range::from_bounds(lower, upper);
     within(nodes, children, cuts, index, used, v, range)
@@ -117,7 +116,7 @@ pub fn from_comparison(
     key: i32,
 ) -> Made
     requires { ⌜ (Lent used (store (now nodes) (now children) (now cuts)) (now index)) × (v < firstBoolean) ⌝ }
-    ensures { λ r. ⌜ (Outcome used (comparison (tableOf used (store (now (nodes .entry)) (now (children .entry)) (now (cuts .entry)))) v op key) r (store (now (nodes .entry)) (now (children .entry)) (now (cuts .entry))) (store (now (nodes .exit)) (now (children .exit)) (now (cuts .exit))) (now (index .exit))) × (r .ok ≡ false → Untouched (store (now (nodes .entry)) (now (children .entry)) (now (cuts .entry))) (now (index .entry)) (store (now (nodes .exit)) (now (children .exit)) (now (cuts .exit))) (now (index .exit))) ⌝ }
+    ensures { λ r. ⌜ Creates used (comparison (tableOf used (store (now (nodes .entry)) (now (children .entry)) (now (cuts .entry)))) v op key) r (store (now (nodes .entry)) (now (children .entry)) (now (cuts .entry))) (now (index .entry)) (store (now (nodes .exit)) (now (children .exit)) (now (cuts .exit))) (now (index .exit)) ⌝ }
 {
     let compared = ranges::spans::from_comparison(op, key);
     let range = compared.range;
@@ -144,7 +143,7 @@ pub fn from_bool(
     v: usize,
 ) -> Made
     requires { ⌜ (Lent used (store (now nodes) (now children) (now cuts)) (now index)) × (firstBoolean ≤ v) × (v < variables) ⌝ }
-    ensures { λ r. ⌜ (Outcome used (from-bool (tableOf used (store (now (nodes .entry)) (now (children .entry)) (now (cuts .entry)))) v) r (store (now (nodes .entry)) (now (children .entry)) (now (cuts .entry))) (store (now (nodes .exit)) (now (children .exit)) (now (cuts .exit))) (now (index .exit))) × (r .ok ≡ false → Untouched (store (now (nodes .entry)) (now (children .entry)) (now (cuts .entry))) (now (index .entry)) (store (now (nodes .exit)) (now (children .exit)) (now (cuts .exit))) (now (index .exit))) ⌝ }
+    ensures { λ r. ⌜ Creates used (from-bool (tableOf used (store (now (nodes .entry)) (now (children .entry)) (now (cuts .entry)))) v) r (store (now (nodes .entry)) (now (children .entry)) (now (cuts .entry))) (now (index .entry)) (store (now (nodes .exit)) (now (children .exit)) (now (cuts .exit))) (now (index .exit)) ⌝ }
 {
     let high = NodeId::TRUE;
     let low = NodeId::FALSE;
