@@ -1,5 +1,5 @@
 -- The laws behind restriction, narrowing and widening, lowest first. Assumes nothing.
-pub mod Looking
+pub mod Gathering
 pub mod Bottom
 pub mod Down
 pub mod Ways

@@ -2,5 +2,5 @@
 // the source. Each goes down from the nodes of earlier variables to each child and changes the edges at its own variable.
 pub mod narrowing;
 pub mod restriction;
-pub mod sights;
+pub mod turns;
 pub mod widening;

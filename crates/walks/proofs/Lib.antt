@@ -6,4 +6,3 @@ pub mod Walk
 pub mod Halves
 pub mod Booleans
 pub mod Ranging
-pub mod Gathering

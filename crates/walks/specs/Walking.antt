@@ -19,7 +19,7 @@ use Rattle.making.specs.declared.edges.Edges as built
 use Rattle.making.specs.declared.nodes.Used.{Used}
 use Rattle.making.specs.declared.nodes.Made.{Made}
 use Rattle.making.specs.Building.{Building, piecesOf}
-use Rattle.making.specs.Outcome.{Lent, Outcome, Untouched, TakenBack, tableOf}
+use Rattle.making.specs.Outcome.{Lent, Outcome, Untouched, Creates, TakenBack, tableOf}
 use Rattle.views.specs.declared.View.{View}
 use Rattle.views.specs.Seeing.{beyond, seen, Inside}
 use Rattle.walks.specs.Recalling.{Memo, Overwritten}
@@ -52,13 +52,9 @@ pub record Sides (t : Table) (e : ℕ) (children : List ℕ) (cuts : List ℤ) (
   pub left-kids : Each (Child t (suc v)) (seen children cuts v a 0)
   pub right-kids : Each (Child t (suc v)) (seen children cuts v b 0)
 
--- The node of variable v over the overlap of two sides, an operation being done on each pair of children, in one of the two orders,
+-- The node of variable v over the overlap of two sides, an operation being done on each pair of children, in one of the two orders.
 unfoldable pub both : Bool → (Table → ℕ × ℕ → Table × ℕ) → Table → ℕ → Pieces ℕ → Pieces ℕ → Table × ℕ
 both back f t v e g = create-over v (walkIn back f t (overlay e g))
-
--- and over one side.
-unfoldable pub over : Bool → (Table → ℕ → Table × ℕ) → Table → ℕ → Pieces ℕ → Table × ℕ
-over back f t v e = create-over v (walkIn back f t e)
 
 -- One overlap of the edge merge, its edge going into a slot: no slot or no room; or the edge up to the nearer of two cuts, whose side
 -- goes on, or both, until both are at their last edges. The answer: whether it is well, whether there is more, the slot, the cut, and by
@@ -69,28 +65,14 @@ pub data Advances (ok : Bool) (slot k l : ℕ) : Bool → Bool → ℕ → ℕ �
   right : ok ≡ true → slot < mostEdges → l < k → Advances ok slot k l true true slot l 0 1
   level : ok ≡ true → slot < mostEdges → k ≡ l → Advances ok slot k l true (ltb k beyond) slot k 1 1
 
--- Edges over which a node of variable u can be made in the table t, once they are merged.
-pub record Mergeable (t : Table) (u : ℕ) (es : built.Edges) : Type 0 where
-  pub building : Building es
-  pub known : u < variables
-  pub rises : Rising 0 (topOf u) (piecesOf es)
-  pub kids : Each (Child t (suc u)) (piecesOf es)
-
--- The node of variable u over these edges, which is noted under x; or nothing, where it is not to be made.
-pub record NodeOver (ok : Bool) (h : Used) (x u : ℕ) (es : built.Edges) (st : Store) (index memo : List ℕ) (r : Made) (st′ : Store) (index′ memo′ : List ℕ) : Type 0 where
-  pub nothing : ok ≡ false → (r .ok ≡ false) × (r .used ≡ h) × Untouched st index st′ index′ × (memo′ ≡ memo)
-  pub made : ok ≡ true → Outcome h (create-node (tableOf h st) u (piecesOf es)) r st st′ index′
-  pub noted : ok ≡ true → r .ok ≡ true → Overwritten memo x TRUE (r .id .0) memo′
-  pub not-noted : ok ≡ true → r .ok ≡ false → memo′ ≡ memo
-
--- What is left of what was made: all of it; or, where there was no room, nothing after the first `used` nodes. The memo is all zero.
-pub record Finishes (used : ℕ) (m : Made) (st : Store) (index memo : List ℕ) (r : Made) (st′ : Store) (index′ memo′ : List ℕ) : Type 0 where
+-- What is left of what was made: all of it; or, where there was no room, nothing after the first `keep` nodes.
+pub record Finishes (keep : ℕ) (m : Made) (st : Store) (index : List ℕ) (r : Made) (st′ : Store) (index′ : List ℕ) : Type 0 where
   pub kept : m .ok ≡ true → (r ≡ m) × Untouched st index st′ index′
-  pub taken : m .ok ≡ false → (r .ok ≡ false) × TakenBack used (m .used) st (r .used) st′ index′
-  pub zeroed : memo′ ≡ replicate (length memo) 0
+  pub taken : m .ok ≡ false → (r .ok ≡ false) × TakenBack keep (m .used) st (r .used) st′ index′
 
--- What a whole operation leaves: its outcome, nothing else where there was no room, and a memo of zeros.
-pub record Worked (h : Used) (want : Table × ℕ) (r : Made) (st : Store) (index memo : List ℕ) (st′ : Store) (index′ memo′ : List ℕ) : Type 0 where
-  pub outcome : Outcome h want r st st′ index′
-  pub untouched : r .ok ≡ false → Untouched st index st′ index′
-  pub zeroed : memo′ ≡ replicate (length memo) 0
+-- What a whole operation leaves: its outcome, and nothing else where there was no room; and beside an answer a memo that is still true, for
+-- an operation that may follow.
+pub record Worked (P : Note) (h : Used) (want : Table × ℕ) (r : Made) (st : Store) (index memo : List ℕ) (st′ : Store) (index′ memo′ : List ℕ) : Type 0 where
+  pub creates : Creates h want r st index st′ index′
+  pub long : length memo′ ≡ length memo
+  pub recalled : r .ok ≡ true → Memo (P (tableOf (r .used) st′)) memo′

@@ -1,16 +1,10 @@
-// The step of the edge merge, the edge of a boolean variable, and the turns of the children of one node.
+// The step of the edge merge, and the edge of a boolean variable.
 ghost use mathlib.Core.Path.{_≡_};
-ghost use mathlib.Core.Bool.{true, false, cond};
-ghost use Prim.Native.Nat.{_+_, _-_, _≤_, _<_};
-ghost use lib.ListN.{length};
-ghost use Rattle.diagram.specs.Table.{isRange};
-ghost use Rattle.views.specs.Seeing.{Inside, cutSeen};
+ghost use mathlib.Core.Bool.{cond};
+ghost use Prim.Native.Nat.{_-_, _≤_};
 ghost use Rattle.walks.specs.Walking.{Advances};
-use table::limits::FIRST_BOOLEAN;
 use table::limits::MOST_EDGES;
 use views::END;
-use views::View;
-use views::cut;
 
 // How the merge goes on after one overlap: the slot and the cut of its edge, how far each side goes, and whether there is more.
 pub struct Step {
@@ -83,37 +77,4 @@ pub fn edge_of(count: usize, low: bool) -> usize
         return count - 1;
     }
     0
-}
-
-// The edge whose turn it is where `left` of them are left: "ranges left to right", booleans "low then high".
-pub fn turn(u: usize, left: usize, count: usize) -> usize
-    requires { ⌜ (1 ≤ left) × (left ≤ count) ⌝ }
-    ensures { λ r. ⌜ r ≡ cond (isRange u) (count - left) (left - 1) ⌝ }
-{
-    if u < FIRST_BOOLEAN {
-        return count - left;
-    }
-    left - 1
-}
-
-// How many are left after one turn: none where it found no room.
-pub fn left_after(ok: bool, left: usize) -> usize
-    requires { ⌜ 1 ≤ left ⌝ }
-    ensures { λ r. ⌜ (ok ≡ true → r ≡ left - 1) × (ok ≡ false → r ≡ 0) ⌝ }
-{
-    if !ok {
-        return 0;
-    }
-    left - 1
-}
-
-// The cut of edge i of a node of variable u: of a boolean one, position 1.
-pub fn cut_of(cuts: &[i64], a: View, u: usize, i: usize) -> usize
-    requires { ⌜ (Inside (length (now cuts)) a) × (i < a .count) ⌝ }
-    ensures { λ r. ⌜ (i + 1 < a .count → r ≡ cutSeen (now (cuts .entry)) u a i) ⌝ }
-{
-    if u < FIRST_BOOLEAN {
-        return cut(cuts, a, i);
-    }
-    1
 }
