@@ -12,15 +12,14 @@ use Rattle.diagram.specs.Table.{variables, firstBoolean, topOf, Table, at}
 use Rattle.diagram.specs.Cofactor.{edgesOf}
 use Rattle.diagram.specs.Sound.{Child}
 use Rattle.diagram.proofs.Either.{neither-true}
-use Rattle.diagram.proofs.Facts.{var-most}
 use Rattle.diagram.proofs.Piecewise.{each-imp}
 use Rattle.algebra.specs.Disjointness.{disjoint-step, disjoint}
 use Rattle.table.specs.Held.{held}
-use Rattle.views.specs.Seeing.{Asked, Readable, seen, Views}
+use Rattle.views.specs.Seeing.{Asked, Readable, seen, Sees, Views}
 use Rattle.views.specs.declared.View.{View}
-use Rattle.views.proofs.Sights.{seen-range, seen-bool, views-rising, views-kids, views-inside, count-bool, known-held, known-used}
+use Rattle.views.proofs.Sights.{seen-range, seen-bool, views-rising, views-kids, views-inside, count-bool, known-held, known-used, first-is, sees-views, call-left}
 use Rattle.disjointness.specs.Asking.{apart, Sides}
-use Rattle.table.specs.Layout.{Store}
+use Rattle.table.specs.Layout.{varAt, Store}
 
 -- what they ask
 abbrev pub Opposed : ℕ → ℕ → Bool
@@ -62,15 +61,14 @@ module _ {st : Store} {u n x y : ℕ} (r : Readable st u) (ax : Asked (held st u
   abbrev t : Table
   t = held st u
 
-  -- no variable is later than a terminal's, so that a call is left
-  pub call-left : 1 ≤ n
-  call-left = omega (arith, var-most t (r .sound) (ref x) (known-held st u x (ax .known)), ax .ahead)
+  some-ahead : 1 ≤ n
+  some-ahead = call-left r x ax
 
   pub opening-yes : {q : Bool} → q ≡ Opposed x y → q ≡ true → true ≡ disjoint n t x y
-  opening-yes e h = disjoint-yes t x y n call-left (sym e ∙ h)
+  opening-yes e h = disjoint-yes t x y n some-ahead (sym e ∙ h)
 
   pub opening-no : {p q : Bool} → p ≡ Opposed x y → p ≡ false → q ≡ Agreeing x y → q ≡ true → false ≡ disjoint n t x y
-  opening-no d o e h = disjoint-no t x y n call-left (sym d ∙ o) (sym e ∙ h)
+  opening-no d o e h = disjoint-no t x y n some-ahead (sym d ∙ o) (sym e ∙ h)
 
   module _ {p q : Bool} (d : p ≡ Opposed x y) (o : p ≡ false) (e : q ≡ Agreeing x y) (g : q ≡ false) where
     pub left-node : 2 ≤ x
@@ -79,7 +77,19 @@ module _ {st : Store} {u n x y : ℕ} (r : Readable st u) (ax : Asked (held st u
     pub right-node : 2 ≤ y
     right-node = no-terminal-right x y (sym d ∙ o) (sym e ∙ g)
 
-    module _ {v : ℕ} {a b : View} (ev : v ≡ min ((at t (ref x)) .var) ((at t (ref y)) .var)) (hv : v < variables) (va : Views st u v x a) (vb : Views st u v y b) where
+    module _ {v : ℕ} {a b : View} (first : v ≡ min (varAt (st .nodes) (ref x - 1)) (varAt (st .nodes) (ref y - 1))) (sa : Sees (st .nodes) v x a) (sb : Sees (st .nodes) v y b) where
+      ev : v ≡ min ((at t (ref x)) .var) ((at t (ref y)) .var)
+      ev = first-is r x y left-node (ax .known) right-node (ay .known) first .0
+
+      hv : v < variables
+      hv = first-is r x y left-node (ax .known) right-node (ay .known) first .1
+
+      va : Views st u v x a
+      va = sees-views r x (ax .known) hv sa
+
+      vb : Views st u v y b
+      vb = sees-views r y (ay .known) hv sb
+
       left-child : Child t v x
       left-child = (known-held st u x (ax .known), omega (arith, ev))
 
@@ -87,7 +97,7 @@ module _ {st : Store} {u n x y : ℕ} (r : Readable st u) (ax : Asked (held st u
       right-child = (known-held st u y (ay .known), omega (arith, ev))
 
       below : (c : ℕ) → Child t (suc v) c → Asked t u (n - 1) c
-      below c k = record { known = known-used st u c (k .0); ahead = omega (arith, k .1, ev, ax .ahead, ay .ahead, call-left) }
+      below c k = record { known = known-used st u c (k .0); ahead = omega (arith, k .1, ev, ax .ahead, ay .ahead, some-ahead) }
 
       -- the two views, at the variable
       sides : Sides st u v (n - 1) a b
@@ -112,7 +122,7 @@ module _ {st : Store} {u n x y : ℕ} (r : Readable st u) (ax : Asked (held st u
       }
 
       whole : disjoint n t x y ≡ apart (n - 1) t (seen (st .children) (st .cuts) v a 0) (seen (st .children) (st .cuts) v b 0)
-      whole = disjoint-apart t x y n call-left (sym d ∙ o) (sym e ∙ g) v ev ∙ ap₂ (apart (n - 1) t) (sym (va .edges)) (sym (vb .edges))
+      whole = disjoint-apart t x y n some-ahead (sym d ∙ o) (sym e ∙ g) v ev ∙ ap₂ (apart (n - 1) t) (sym (va .edges)) (sym (vb .edges))
 
       pub range-sides : v < firstBoolean → Sides st u 0 (n - 1) a b
       range-sides h = at-kind 0 (rw (lt-ltb v 32 h)) (λ w. seen-range (st .children) (st .cuts) v w 0 h)

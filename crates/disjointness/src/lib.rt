@@ -53,9 +53,9 @@ pub fn is_disjoint(
     if agreeing(x, y) {
         return false;
     }
-    let v = first_variable(nodes, children, cuts, used, x, y);
-    let a = view_of(nodes, children, cuts, used, x, v);
-    let b = view_of(nodes, children, cuts, used, y, v);
+    let v = first_variable(nodes, x, y);
+    let a = view_of(nodes, x, v);
+    let b = view_of(nodes, y, v);
     if v < FIRST_BOOLEAN {
         return ranges_disjoint(nodes, children, cuts, used, a, b, ahead - 1);
     }

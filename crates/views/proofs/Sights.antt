@@ -21,6 +21,7 @@ use Rattle.diagram.proofs.Piecewise.{rising-down}
 use Rattle.diagram.proofs.Numbered.{count-run, each-run, run-shift, map-run}
 use Rattle.diagram.proofs.Runs.{count-most}
 use Rattle.diagram.proofs.Lookup.{at-end}
+use Rattle.diagram.proofs.Facts.{var-most}
 use Rattle.diagram.proofs.Readings.{bool-top}
 use Rattle.diagram.proofs.Cofactors.{edge-own, edge-other, edges-of, edges-rising}
 use Rattle.table.specs.Layout.{varAt, countAt, firstAt, kidAt, cutAt, cutPosition, start, Store}
@@ -217,6 +218,10 @@ readable st index u a s = record { fits = omega (arith, s .records .fits); cut-e
 -- with more levels than there are variables, every known id may be asked about
 pub asked-all : {t : Table} {u id : ℕ} → KnownTo u id → Asked t u (variables + 1) id
 asked-all k = record { known = k; ahead = omega arith }
+
+-- and of an id that may be asked about, a call is left: no variable is later than a terminal's
+pub call-left : {st : Store} {u n : ℕ} → Readable st u → (x : ℕ) → Asked (held st u) u n x → 1 ≤ n
+call-left {st} {u} r x q = omega (arith, var-most (held st u) (r .sound) (ref x) (known-held st u x (q .known)), q .ahead)
 
 pub one-more : {n : ℕ} → 1 ≤ n → (n ≡ 1 → ⊥) → 1 < n
 one-more h q = omega (arith, q)

@@ -11,7 +11,6 @@ use Rattle.ids.specs.declared.NodeId.{NodeId}
 use Rattle.diagram.specs.Table.{Table}
 use Rattle.diagram.specs.Sound.{Sound, Continues}
 use Rattle.diagram.specs.Room.{Fits}
-use Rattle.diagram.proofs.Facts.{var-most}
 use Rattle.table.specs.Layout.{room, Store}
 use Rattle.table.proofs.Laws.{clash}
 use Rattle.table.proofs.Bridge.{ordered}
@@ -41,10 +40,6 @@ nothing-made l id e = record { lent = l; stays = stays-here; table = λ q. sym (
 module _ {P : Note} {h : Used} {st : Store} {index memo : List ℕ} (r : Ready P h st index memo) where
   pub can-read : Readable st (h .nodes)
   can-read = readable st index (h .nodes) (r .lent .allowed) (r .lent .sound)
-
-  -- Of an id that may be asked about, a call is left.
-  pub call-left : {n x : ℕ} → Asked (tableOf h st) (h .nodes) n x → 1 ≤ n
-  call-left {n} {x} q = omega (arith, var-most (tableOf h st) (sound-of (r .lent)) (ref x) (known-held st (h .nodes) x (q .known)), q .ahead)
 
   -- What was settled without a node.
   pub settled : {want : Table × ℕ} (id : NodeId) → want ≡ (tableOf h st, id .0) → Stepped P h want (record { ok = true; id = id; used = h }) st memo st index memo

@@ -8,9 +8,10 @@ use borrow.Author.Needs.{needs}
 use borrow.Author.Tests.{not-false, not-true}
 use denote.Ref.{now}
 use Rattle.table.specs.Held.{held}
+use Rattle.views.proofs.Sights.{record-inside, call-left}
 use Rattle.disjointness.proofs.Walks.{asked-child, cuts-inside, Walked, Turned, turned-at, walk-starts, walk-no, walk-left, walk-right, walk-both}
 use Rattle.disjointness.proofs.Pairs.{high-no, high-yes}
-use Rattle.disjointness.proofs.Opening.{call-left, opening-yes, opening-no, left-node, right-node, range-sides, range-answer, bool-sides, bool-answer}
+use Rattle.disjointness.proofs.Opening.{opening-yes, opening-no, left-node, right-node, range-sides, range-answer, bool-sides, bool-answer}
 use borrow.Fn.Kinds.{In}
 use borrow.Fn.PlainCycle.{Measures, is, falls, and}
 use Rattle.disjointness.proofs.booleans_disjoint.Reads as booleans-disjoint
@@ -128,31 +129,31 @@ is-disjoint-returns-2 : (t : ℕ) → is-disjoint-lts.Need-returns-2 (is-disjoin
 is-disjoint-returns-2 t c = opening-no (c .before .before .before .before .before .before .pre .1 .0) (c .before .before .before .before .before .before .pre .1 .1) (c .before .before .before .before .before .before .pre .1 .2) (c .before .before .before .opposed .ensures) (c .before .before .if1 .left) (c .before .agreeing .ensures) (c .if2 .taken)
 
 is-disjoint-first-variable-requires : (t : ℕ) → is-disjoint-lts.Need-first-variable-requires (is-disjoint-claims t) (is-disjoint-at t) is-disjoint.Post
-is-disjoint-first-variable-requires t c κs = ((c .before .before .before .before .before .before .pre .1 .0), left-node (c .before .before .before .before .before .before .pre .1 .0) (c .before .before .before .before .before .before .pre .1 .1) (c .before .before .before .before .before .before .pre .1 .2) (c .before .before .before .opposed .ensures) (c .before .before .if1 .left) (c .before .agreeing .ensures) (c .if2 .left), (c .before .before .before .before .before .before .pre .1 .1 .known), right-node (c .before .before .before .before .before .before .pre .1 .0) (c .before .before .before .before .before .before .pre .1 .1) (c .before .before .before .before .before .before .pre .1 .2) (c .before .before .before .opposed .ensures) (c .before .before .if1 .left) (c .before .agreeing .ensures) (c .if2 .left), (c .before .before .before .before .before .before .pre .1 .2 .known))
+is-disjoint-first-variable-requires t c κs = (left-node (c .before .before .before .before .before .before .pre .1 .0) (c .before .before .before .before .before .before .pre .1 .1) (c .before .before .before .before .before .before .pre .1 .2) (c .before .before .before .opposed .ensures) (c .before .before .if1 .left) (c .before .agreeing .ensures) (c .if2 .left), record-inside (c .before .before .before .before .before .before .pre .1 .0) _ (c .before .before .before .before .before .before .pre .1 .1 .known), right-node (c .before .before .before .before .before .before .pre .1 .0) (c .before .before .before .before .before .before .pre .1 .1) (c .before .before .before .before .before .before .pre .1 .2) (c .before .before .before .opposed .ensures) (c .before .before .if1 .left) (c .before .agreeing .ensures) (c .if2 .left), record-inside (c .before .before .before .before .before .before .pre .1 .0) _ (c .before .before .before .before .before .before .pre .1 .2 .known))
 
 is-disjoint-view-of-requires : (t : ℕ) → is-disjoint-lts.Need-view-of-requires (is-disjoint-claims t) (is-disjoint-at t) is-disjoint.Post
-is-disjoint-view-of-requires t c κs = ((c .before .before .before .before .before .before .before .pre .1 .0), left-node (c .before .before .before .before .before .before .before .pre .1 .0) (c .before .before .before .before .before .before .before .pre .1 .1) (c .before .before .before .before .before .before .before .pre .1 .2) (c .before .before .before .before .opposed .ensures) (c .before .before .before .if1 .left) (c .before .before .agreeing .ensures) (c .before .if2 .left), (c .before .before .before .before .before .before .before .pre .1 .1 .known))
+is-disjoint-view-of-requires t c κs = (left-node (c .before .before .before .before .before .before .before .pre .1 .0) (c .before .before .before .before .before .before .before .pre .1 .1) (c .before .before .before .before .before .before .before .pre .1 .2) (c .before .before .before .before .opposed .ensures) (c .before .before .before .if1 .left) (c .before .before .agreeing .ensures) (c .before .if2 .left), record-inside (c .before .before .before .before .before .before .before .pre .1 .0) _ (c .before .before .before .before .before .before .before .pre .1 .1 .known))
 
 is-disjoint-view-of-requires-2 : (t : ℕ) → is-disjoint-lts.Need-view-of-requires-2 (is-disjoint-claims t) (is-disjoint-at t) is-disjoint.Post
-is-disjoint-view-of-requires-2 t c κs = ((c .before .before .before .before .before .before .before .before .pre .1 .0), right-node (c .before .before .before .before .before .before .before .before .pre .1 .0) (c .before .before .before .before .before .before .before .before .pre .1 .1) (c .before .before .before .before .before .before .before .before .pre .1 .2) (c .before .before .before .before .before .opposed .ensures) (c .before .before .before .before .if1 .left) (c .before .before .before .agreeing .ensures) (c .before .before .if2 .left), (c .before .before .before .before .before .before .before .before .pre .1 .2 .known))
+is-disjoint-view-of-requires-2 t c κs = (right-node (c .before .before .before .before .before .before .before .before .pre .1 .0) (c .before .before .before .before .before .before .before .before .pre .1 .1) (c .before .before .before .before .before .before .before .before .pre .1 .2) (c .before .before .before .before .before .opposed .ensures) (c .before .before .before .before .if1 .left) (c .before .before .before .agreeing .ensures) (c .before .before .if2 .left), record-inside (c .before .before .before .before .before .before .before .before .pre .1 .0) _ (c .before .before .before .before .before .before .before .before .pre .1 .2 .known))
 
 is-disjoint-sub-ranges-disjoint : (t : ℕ) → is-disjoint-lts.Need-sub-ranges-disjoint (is-disjoint-claims t) (is-disjoint-at t) is-disjoint.Post
-is-disjoint-sub-ranges-disjoint t c = omega (arith, call-left (c .before .before .before .before .before .before .before .before .before .before .pre .1 .0) (c .before .before .before .before .before .before .before .before .before .before .pre .1 .1) (c .before .before .before .before .before .before .before .before .before .before .pre .1 .2))
+is-disjoint-sub-ranges-disjoint t c = omega (arith, call-left (c .before .before .before .before .before .before .before .before .before .before .pre .1 .0) _ (c .before .before .before .before .before .before .before .before .before .before .pre .1 .1))
 
 is-disjoint-ranges-disjoint-requires : (t : ℕ) → is-disjoint-lts.Need-ranges-disjoint-requires (is-disjoint-claims t) (is-disjoint-at t) is-disjoint.Post
-is-disjoint-ranges-disjoint-requires t c κs = (omega (arith, (c .before .before .before .before .before .before .before .before .before .before .pre .0), call-left (c .before .before .before .before .before .before .before .before .before .before .pre .1 .0) (c .before .before .before .before .before .before .before .before .before .before .pre .1 .1) (c .before .before .before .before .before .before .before .before .before .before .pre .1 .2)), ((c .before .before .before .before .before .before .before .before .before .before .pre .1 .0), range-sides (c .before .before .before .before .before .before .before .before .before .before .pre .1 .0) (c .before .before .before .before .before .before .before .before .before .before .pre .1 .1) (c .before .before .before .before .before .before .before .before .before .before .pre .1 .2) (c .before .before .before .before .before .before .before .opposed .ensures) (c .before .before .before .before .before .before .if1 .left) (c .before .before .before .before .before .agreeing .ensures) (c .before .before .before .before .if2 .left) (c .before .before .before .first-variable .ensures .0) (c .before .before .before .first-variable .ensures .1) (c .before .before .view-of .ensures) (c .before .view-of2 .ensures) (c .if3 .taken)))
+is-disjoint-ranges-disjoint-requires t c κs = (omega (arith, (c .before .before .before .before .before .before .before .before .before .before .pre .0), call-left (c .before .before .before .before .before .before .before .before .before .before .pre .1 .0) _ (c .before .before .before .before .before .before .before .before .before .before .pre .1 .1)), ((c .before .before .before .before .before .before .before .before .before .before .pre .1 .0), range-sides (c .before .before .before .before .before .before .before .before .before .before .pre .1 .0) (c .before .before .before .before .before .before .before .before .before .before .pre .1 .1) (c .before .before .before .before .before .before .before .before .before .before .pre .1 .2) (c .before .before .before .before .before .before .before .opposed .ensures) (c .before .before .before .before .before .before .if1 .left) (c .before .before .before .before .before .agreeing .ensures) (c .before .before .before .before .if2 .left) (c .before .before .before .first-variable .ensures) (c .before .before .view-of .ensures) (c .before .view-of2 .ensures) (c .if3 .taken)))
 
 is-disjoint-returns-3 : (t : ℕ) → is-disjoint-lts.Need-returns-3 (is-disjoint-claims t) (is-disjoint-at t) is-disjoint.Post
-is-disjoint-returns-3 t c = range-answer (c .before .before .before .before .before .before .before .before .before .before .before .pre .1 .0) (c .before .before .before .before .before .before .before .before .before .before .before .pre .1 .1) (c .before .before .before .before .before .before .before .before .before .before .before .pre .1 .2) (c .before .before .before .before .before .before .before .before .opposed .ensures) (c .before .before .before .before .before .before .before .if1 .left) (c .before .before .before .before .before .before .agreeing .ensures) (c .before .before .before .before .before .if2 .left) (c .before .before .before .before .first-variable .ensures .0) (c .before .before .before .before .first-variable .ensures .1) (c .before .before .before .view-of .ensures) (c .before .before .view-of2 .ensures) (c .before .if3 .taken) (c .ranges-disjoint .ensures)
+is-disjoint-returns-3 t c = range-answer (c .before .before .before .before .before .before .before .before .before .before .before .pre .1 .0) (c .before .before .before .before .before .before .before .before .before .before .before .pre .1 .1) (c .before .before .before .before .before .before .before .before .before .before .before .pre .1 .2) (c .before .before .before .before .before .before .before .before .opposed .ensures) (c .before .before .before .before .before .before .before .if1 .left) (c .before .before .before .before .before .before .agreeing .ensures) (c .before .before .before .before .before .if2 .left) (c .before .before .before .before .first-variable .ensures) (c .before .before .before .view-of .ensures) (c .before .before .view-of2 .ensures) (c .before .if3 .taken) (c .ranges-disjoint .ensures)
 
 is-disjoint-sub-booleans-disjoint : (t : ℕ) → is-disjoint-lts.Need-sub-booleans-disjoint (is-disjoint-claims t) (is-disjoint-at t) is-disjoint.Post
-is-disjoint-sub-booleans-disjoint t c = omega (arith, call-left (c .before .before .before .before .before .before .before .before .before .before .pre .1 .0) (c .before .before .before .before .before .before .before .before .before .before .pre .1 .1) (c .before .before .before .before .before .before .before .before .before .before .pre .1 .2))
+is-disjoint-sub-booleans-disjoint t c = omega (arith, call-left (c .before .before .before .before .before .before .before .before .before .before .pre .1 .0) _ (c .before .before .before .before .before .before .before .before .before .before .pre .1 .1))
 
 is-disjoint-booleans-disjoint-requires : (t : ℕ) → is-disjoint-lts.Need-booleans-disjoint-requires (is-disjoint-claims t) (is-disjoint-at t) is-disjoint.Post
-is-disjoint-booleans-disjoint-requires t c κs = let z = bool-sides (c .before .before .before .before .before .before .before .before .before .before .pre .1 .0) (c .before .before .before .before .before .before .before .before .before .before .pre .1 .1) (c .before .before .before .before .before .before .before .before .before .before .pre .1 .2) (c .before .before .before .before .before .before .before .opposed .ensures) (c .before .before .before .before .before .before .if1 .left) (c .before .before .before .before .before .agreeing .ensures) (c .before .before .before .before .if2 .left) (c .before .before .before .first-variable .ensures .0) (c .before .before .before .first-variable .ensures .1) (c .before .before .view-of .ensures) (c .before .view-of2 .ensures) (c .if3 .left) in (omega (arith, (c .before .before .before .before .before .before .before .before .before .before .pre .0), call-left (c .before .before .before .before .before .before .before .before .before .before .pre .1 .0) (c .before .before .before .before .before .before .before .before .before .before .pre .1 .1) (c .before .before .before .before .before .before .before .before .before .before .pre .1 .2)), ((c .before .before .before .before .before .before .before .before .before .before .pre .1 .0), z .0, z .1, z .2))
+is-disjoint-booleans-disjoint-requires t c κs = let z = bool-sides (c .before .before .before .before .before .before .before .before .before .before .pre .1 .0) (c .before .before .before .before .before .before .before .before .before .before .pre .1 .1) (c .before .before .before .before .before .before .before .before .before .before .pre .1 .2) (c .before .before .before .before .before .before .before .opposed .ensures) (c .before .before .before .before .before .before .if1 .left) (c .before .before .before .before .before .agreeing .ensures) (c .before .before .before .before .if2 .left) (c .before .before .before .first-variable .ensures) (c .before .before .view-of .ensures) (c .before .view-of2 .ensures) (c .if3 .left) in (omega (arith, (c .before .before .before .before .before .before .before .before .before .before .pre .0), call-left (c .before .before .before .before .before .before .before .before .before .before .pre .1 .0) _ (c .before .before .before .before .before .before .before .before .before .before .pre .1 .1)), ((c .before .before .before .before .before .before .before .before .before .before .pre .1 .0), z .0, z .1, z .2))
 
 is-disjoint-returns-4 : (t : ℕ) → is-disjoint-lts.Need-returns-4 (is-disjoint-claims t) (is-disjoint-at t) is-disjoint.Post
-is-disjoint-returns-4 t c = bool-answer (c .before .before .before .before .before .before .before .before .before .before .before .pre .1 .0) (c .before .before .before .before .before .before .before .before .before .before .before .pre .1 .1) (c .before .before .before .before .before .before .before .before .before .before .before .pre .1 .2) (c .before .before .before .before .before .before .before .before .opposed .ensures) (c .before .before .before .before .before .before .before .if1 .left) (c .before .before .before .before .before .before .agreeing .ensures) (c .before .before .before .before .before .if2 .left) (c .before .before .before .before .first-variable .ensures .0) (c .before .before .before .before .first-variable .ensures .1) (c .before .before .before .view-of .ensures) (c .before .before .view-of2 .ensures) (c .before .if3 .left) (c .booleans-disjoint .ensures)
+is-disjoint-returns-4 t c = bool-answer (c .before .before .before .before .before .before .before .before .before .before .before .pre .1 .0) (c .before .before .before .before .before .before .before .before .before .before .before .pre .1 .1) (c .before .before .before .before .before .before .before .before .before .before .before .pre .1 .2) (c .before .before .before .before .before .before .before .before .opposed .ensures) (c .before .before .before .before .before .before .before .if1 .left) (c .before .before .before .before .before .before .agreeing .ensures) (c .before .before .before .before .before .if2 .left) (c .before .before .before .before .first-variable .ensures) (c .before .before .before .view-of .ensures) (c .before .before .view-of2 .ensures) (c .before .if3 .left) (c .booleans-disjoint .ensures)
 
 abbrev ranges-disjoint-Inv-loop : ranges-disjoint-lts.InvT-loop
 ranges-disjoint-Inv-loop nodes children cuts used a b ahead answer₀ i j₀ x k answer j = (answer ≡ true) × Walked ahead (held (store nodes children cuts) used) children cuts a b i j
@@ -303,7 +304,8 @@ ranges-disjoint-returns-2 t c = walk-no (c .before .before .before .before .befo
 
 pub +booleans-disjoint+is-disjoint+ranges-disjoint-spec : {M : Type 1} → statement M
 +booleans-disjoint+is-disjoint+ranges-disjoint-spec =
-    close μ-booleans-disjoint μ-is-disjoint μ-ranges-disjoint (λ t. booleans-disjoint-lts.spec (booleans-disjoint-claims t)
+    close μ-booleans-disjoint μ-is-disjoint μ-ranges-disjoint (λ t. booleans-disjoint-lts.spec
+    (booleans-disjoint-claims t)
     (booleans-disjoint-at t)
     booleans-disjoint.Post
     (booleans-disjoint-child-requires t)
@@ -316,7 +318,8 @@ pub +booleans-disjoint+is-disjoint+ranges-disjoint-spec : {M : Type 1} → state
     (booleans-disjoint-child-requires-4 t)
     (booleans-disjoint-is-disjoint-requires-2 t)
     (booleans-disjoint-returns-2 t))
-    (λ t. is-disjoint-lts.spec (is-disjoint-claims t)
+    (λ t. is-disjoint-lts.spec
+    (is-disjoint-claims t)
     (is-disjoint-at t)
     is-disjoint.Post
     (λ c κs. search needs)
@@ -332,7 +335,8 @@ pub +booleans-disjoint+is-disjoint+ranges-disjoint-spec : {M : Type 1} → state
     (is-disjoint-sub-booleans-disjoint t)
     (is-disjoint-booleans-disjoint-requires t)
     (is-disjoint-returns-4 t))
-    λ t. ranges-disjoint-lts.spec (ranges-disjoint-claims t)
+    λ t. ranges-disjoint-lts.spec
+    (ranges-disjoint-claims t)
     (ranges-disjoint-at t)
     ranges-disjoint.Post
     ranges-disjoint-Inv-loop
