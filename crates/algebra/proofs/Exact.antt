@@ -46,7 +46,7 @@ module _ (t : Table) (m : Reading → Bool) (out : Table × ℕ) (x : Answers t 
   t′ = out .0
 
   abbrev z : Sound t′
-  z = x .sound
+  z = x .right .sound
 
   abbrev os : Ordered (diagramOf s)
   os = sound-ordered s zs
@@ -77,17 +77,17 @@ module _ (t : Table) (m : Reading → Bool) (out : Table × ℕ) (x : Answers t 
           to = 2 * r;
           of-ref = d;
           to-ref = d;
-          inside = omega (arith, continues-length (x .continues));
-          same = λ α w. continues-value (x .continues) α (2 * r) k ∙ sym (continues-value g α (2 * r) k) ∙ sym (tells-value s zs α w (2 * r) ks);
+          inside = omega (arith, continues-length (x .right .continues));
+          same = λ α w. continues-value (x .right .continues) α (2 * r) k ∙ sym (continues-value g α (2 * r) k) ∙ sym (tells-value s zs α w (2 * r) ks);
         };
-        wide = rw (continues-at (x .continues) r l, continues-at g r l) (omega arith);
+        wide = rw (continues-at (x .right .continues) r l, continues-at g r l) (omega arith);
       }
 
   -- an added one: the answer reaches it, and the other table's answer reaches its partner
   new : (r : ℕ) → length t < r → r ≤ length t′ → Match r
   new r p l =
-      let w = twin t′ z (diagramOf s) os (x .reached r p l) (out .1) i refl (omega arith) (x .known) hi
-      (λ α q. under-assignments (λ β. value t′ β (out .1) ≡ value s β i) (λ ρ. x .means ρ ∙ sym (h ρ)) α q ∙ sym (tells-value s zs α q i hi)) in
+      let w = twin t′ z (diagramOf s) os (x .reached r p l) (out .1) i refl (omega arith) (x .right .known) hi
+      (λ α q. under-assignments (λ β. value t′ β (out .1) ≡ value s β i) (λ ρ. x .right .means ρ ∙ sym (h ρ)) α q ∙ sym (tells-value s zs α q i hi)) in
       let k = w .partner in
       let nx : IsNode t′ z (diagramOf s) os (w .of) = record { some = omega (arith, w .ref-is); inside = omega (arith, w .ref-is) } in
       let hk = is-vertex (diagramOf s) (ref (k .to)) (omega (arith, k .vars, facts t′ z (ref (w .of)) (nx .some) (nx .inside) .known)) in
@@ -134,13 +134,13 @@ fits-less nodes edges t s a f = record {
 pub room-exact : (t : Table) (m : Reading → Bool) (out : Table × ℕ) → Answers t m out → (nodes edges : ℕ) → Answerable nodes edges t m ↔ Fits nodes edges (out .0)
 room-exact t m out x nodes edges = (
   λ a. fits-less nodes edges (out .0) (a .table) (no-smaller t m out x (a .table) (a .sound) (a .continues) (a .id) (a .known) (a .means)) (a .fits),
-  λ f. record { table = out .0; sound = x .sound; continues = x .continues; fits = f; id = out .1; known = x .known; means = x .means },
+  λ f. record { table = out .0; sound = x .right .sound; continues = x .right .continues; fits = f; id = out .1; known = x .right .known; means = x .right .means },
 )
 
 -- and a table that holds the answer already stays as it is
 pub answer-held : (t : Table) → Sound t → (m : Reading → Bool) (out : Table × ℕ) → Answers t m out → (c : ℕ) → Known t c → ((ρ : Reading) → says t ρ c ≡ m ρ) → out ≡ (t, c)
 answer-held t z m out x c k h =
-    let p = continues-same (x .continues) (no-smaller t m out x t z same c k h .nodes) in
-    let q = one-id (out .0) (x .sound) (out .1) c (x .known) (omega (arith, continues-length (x .continues)))
-    (under-assignments (λ α. value (out .0) α (out .1) ≡ value (out .0) α c) (λ ρ. x .means ρ ∙ sym (h ρ) ∙ sym (continues-value (x .continues) (positions ρ) c k))) in
+    let p = continues-same (x .right .continues) (no-smaller t m out x t z same c k h .nodes) in
+    let q = one-id (out .0) (x .right .sound) (out .1) c (x .right .known) (omega (arith, continues-length (x .right .continues)))
+    (under-assignments (λ α. value (out .0) α (out .1) ≡ value (out .0) α c) (λ ρ. x .right .means ρ ∙ sym (h ρ) ∙ sym (continues-value (x .right .continues) (positions ρ) c k))) in
     λ n. (p n, q n)

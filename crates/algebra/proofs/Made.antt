@@ -72,9 +72,6 @@ weaken t u v m out h x = record { sound = x .sound; continues = x .continues; ch
 -- and as the promises have it: over document 01's readings
 pub answers : {t : Table} {u : ℕ} {m : Assignment → Bool} {out : Table × ℕ} → Made t u m out → (M : Reading → Bool) → ((ρ : Reading) → m (positions ρ) ≡ M ρ) → Answers t M out
 answers {out = out} x M h = record {
-  sound = x .sound;
-  continues = x .continues;
-  known = x .child .0;
-  means = λ ρ. x .means (positions ρ) ∙ h ρ;
+  right = record { sound = x .sound; continues = x .continues; known = x .child .0; means = λ ρ. x .means (positions ρ) ∙ h ρ };
   reached = λ r n l. reach-path (out .0) (x .sound) (x .child .0) (x .used r n l);
 }

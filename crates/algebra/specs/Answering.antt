@@ -11,13 +11,16 @@ use Rattle.diagram.specs.Reading.{Reading, says}
 use Rattle.diagram.specs.Ordered.{Path, diagramOf}
 use Rattle.diagram.specs.Room.{width, edgeTotal, Fits}
 
--- From the table t, a table and an id that answer with m, which says of each reading yes or no.
-pub record Answers (t : Table) (m : Reading → Bool) (out : Table × ℕ) : Type 0 where
+-- From the table t, a table and an id that say m, which says of each reading yes or no: the table is sound and continues t.
+pub record Right (t : Table) (m : Reading → Bool) (out : Table × ℕ) : Type 0 where
   pub sound : Sound (out .0)
   pub continues : Continues t (out .0)
   pub known : Known (out .0) (out .1)
   pub means : (ρ : Reading) → says (out .0) ρ (out .1) ≡ m ρ
-  -- "the table with only the answer's missing nodes added": there is a path from the answer to each added node
+
+-- And "the table with only the answer's missing nodes added": there is a path from the answer to each added node.
+pub record Answers (t : Table) (m : Reading → Bool) (out : Table × ℕ) : Type 0 where
+  pub right : Right t m out
   pub reached : (r : ℕ) → length t < r → r ≤ length (out .0) → Path (diagramOf (out .0)) (ref (out .1)) r
 
 -- Some sound table that continues t, within a room for nodes, a room for edges and the 64 edges a node, holds the answer m: row 6

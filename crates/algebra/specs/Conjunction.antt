@@ -46,11 +46,20 @@ pick false false false false x y = none
 unfoldable pub opening : ℕ → ℕ → Option ℕ
 opening x y = pick (eqb x TRUE) (eqb y TRUE) (eqb x y) (eqb x FALSE || (eqb y FALSE || eqb (flip x) y)) x y
 
--- Both at the earlier of two variables: "booleans high then low where both sides test the variable, low then high where only one does".
+-- The pairs of children that a pair of ids asks for at the variable v: those of the edges that overlap.
+abbrev pub pairsOf : Table → ℕ → ℕ → ℕ → Pieces (ℕ × ℕ)
+pairsOf t v x y = overlay (edgesOf t v x) (edgesOf t v y)
+
+-- Whether the last pair comes first, where the two ids test the variables u and w: "booleans high then low where both sides test the variable,
+-- low then high where only one does".
+abbrev pub lowFirst : ℕ → ℕ → Bool
+lowFirst u w = not (isRange (min u w)) && not (eqb u w)
+
+-- Both at the earlier of two variables.
 unfoldable pub conj-node : (Table → ℕ × ℕ → Table × ℕ) → Table → ℕ → ℕ → ℕ → ℕ → Table × ℕ
 conj-node f t x y u w =
     let v = min u w in
-    create-over v (walkIn (not (isRange v) && not (eqb u w)) f t (overlay (edgesOf t v x) (edgesOf t v y)))
+    create-over v (walkIn (lowFirst u w) f t (pairsOf t v x y))
 
 unfoldable pub conj-step : (Table → ℕ × ℕ → Table × ℕ) → Table → ℕ → ℕ → Option ℕ → Table × ℕ
 conj-step f t x y (some z) = (t, z)

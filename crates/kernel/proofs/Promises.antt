@@ -36,10 +36,10 @@ use Rattle.kernel.specs.Meaning.{Answered, HasRoom, DoneOrNoRoom, EmptyA
 use Rattle.kernel.proofs.Once.{leaves-fits, makes-once}
 
 -- An operation that is right: from every sound table that knows its ids it answers with m, which says of each reading yes or no.
-abbrev pub Right : (ℕ → Type 0) → Type 0 → (Table → Table × ℕ) → (Table → Reading → Bool) → Type 0
-Right known kind want m = (t : Table) → Sound t → known (length t) → kind → Answers t (m t) (want t)
+abbrev pub AnswersAlways : (ℕ → Type 0) → Type 0 → (Table → Table × ℕ) → (Table → Reading → Bool) → Type 0
+AnswersAlways known kind want m = (t : Table) → Sound t → known (length t) → kind → Answers t (m t) (want t)
 
-module _ (lent : Type 0) (known : ℕ → Type 0) (kind : Type 0) (want : Table → Table × ℕ) (m : Table → Reading → Bool) (right : Right known kind want m)
+module _ (lent : Type 0) (known : ℕ → Type 0) (kind : Type 0) (want : Table → Table × ℕ) (m : Table → Reading → Bool) (right : AnswersAlways known kind want m)
     (st : Store) (index memo : List ℕ) where
   abbrev Out : ℕ → ℕ → Store → List ℕ → List ℕ → Type 0
   Out k id n c t i z = Makes lent known kind want st index memo k id n c t i z
@@ -110,25 +110,25 @@ module _ (t : Table) (z : Sound t) (v : ℕ) (hv : v < firstBoolean) (id : ℕ) 
   empty-answer-once m m′ h h′ ρ = ⊎-elim (λ s. h ρ .1 s ∙ sym (h′ ρ .1 s)) (λ c. h ρ .0 c ∙ sym (h′ ρ .0 c)) (steady-or-changing t z v hv id k ρ)
 
 -- The operations are right.
-from-range-right : (v : ℕ) (lower upper : Bound) → Keyed lower → Keyed upper → Right (λ u. Unit {0}) (v < firstBoolean) (λ t. from-range t v lower upper) (λ t ρ. inside lower upper (ρ .place v))
+from-range-right : (v : ℕ) (lower upper : Bound) → Keyed lower → Keyed upper → AnswersAlways (λ u. Unit {0}) (v < firstBoolean) (λ t. from-range t v lower upper) (λ t ρ. inside lower upper (ρ .place v))
 from-range-right v lower upper kl ku t z a h = from-range-answers t z v h lower upper kl ku
 
-comparison-right : (v : ℕ) (op : Comparison) (key : ℤ) → Key key → Right (λ u. Unit {0}) (v < firstBoolean) (λ t. comparison t v op key) (λ t ρ. compares op key (ρ .place v))
+comparison-right : (v : ℕ) (op : Comparison) (key : ℤ) → Key key → AnswersAlways (λ u. Unit {0}) (v < firstBoolean) (λ t. comparison t v op key) (λ t ρ. compares op key (ρ .place v))
 comparison-right v op key kk t z a h = comparison-answers t z v h op key kk
 
-from-bool-right : (v : ℕ) → Right (λ u. Unit {0}) ((firstBoolean ≤ v) × (v < variables)) (λ t. from-bool t v) (λ t ρ. ρ .holds v)
+from-bool-right : (v : ℕ) → AnswersAlways (λ u. Unit {0}) ((firstBoolean ≤ v) × (v < variables)) (λ t. from-bool t v) (λ t ρ. ρ .holds v)
 from-bool-right v t z a h = from-bool-answers t z v (h .0) (h .1)
 
-and-right : (x y : ℕ) → Right (BothKnown x y) (Unit {0}) (λ t. and t x y) (λ t ρ. says t ρ x && says t ρ y)
+and-right : (x y : ℕ) → AnswersAlways (BothKnown x y) (Unit {0}) (λ t. and t x y) (λ t ρ. says t ρ x && says t ρ y)
 and-right x y t z a h = and-answers t z x y (a .0) (a .1)
 
-or-right : (x y : ℕ) → Right (BothKnown x y) (Unit {0}) (λ t. or t x y) (λ t ρ. says t ρ x || says t ρ y)
+or-right : (x y : ℕ) → AnswersAlways (BothKnown x y) (Unit {0}) (λ t. or t x y) (λ t ρ. says t ρ x || says t ρ y)
 or-right x y t z a h = or-answers t z x y (a .0) (a .1)
 
-restrict-right : (id v : ℕ) (value : Bool) → firstBoolean ≤ v → Right (λ u. KnownTo u id) (v < variables) (λ t. restrict t v value id) (λ t ρ. says t (switched ρ v value) id)
+restrict-right : (id v : ℕ) (value : Bool) → firstBoolean ≤ v → AnswersAlways (λ u. KnownTo u id) (v < variables) (λ t. restrict t v value id) (λ t ρ. says t (switched ρ v value) id)
 restrict-right id v value b t z a h = restrict-answers t z id a v b h value
 
-restrict-range-right : (id v : ℕ) (value : Bool) → v < firstBoolean → Right (λ u. KnownTo u id) (v < variables) (λ t. restrict t v value id) (λ t ρ. says t ρ id)
+restrict-range-right : (id v : ℕ) (value : Bool) → v < firstBoolean → AnswersAlways (λ u. KnownTo u id) (v < variables) (λ t. restrict t v value id) (λ t ρ. says t ρ id)
 restrict-range-right id v value b t z a h = rw (restrict-range t z id a v b value) (record { sound = z; continues = same; known = a; means = λ ρ. refl; reached = λ r l m. absurd (omega arith) })
 
 -- what the table and the id that narrowing makes say
@@ -136,10 +136,10 @@ abbrev emptied : ℕ → ℕ → Bound → Bound → Table → Reading → Bool
 emptied id v lower upper t ρ = says ((narrow t v lower upper id) .0) ρ ((narrow t v lower upper id) .1)
 
 module _ (id v : ℕ) (lower upper : Bound) (kl : Keyed lower) (ku : Keyed upper) where
-  narrow-right : empty lower upper ≡ false → Right (λ u. KnownTo u id) (v < firstBoolean) (λ t. narrow t v lower upper id) (λ t ρ. says t (atNearest v lower upper kl ku ρ) id)
+  narrow-right : empty lower upper ≡ false → AnswersAlways (λ u. KnownTo u id) (v < firstBoolean) (λ t. narrow t v lower upper id) (λ t ρ. says t (atNearest v lower upper kl ku ρ) id)
   narrow-right e t z a h = narrow-answers t z id a v h lower upper kl ku e
 
-  widen-right : Right (λ u. KnownTo u id) (v < firstBoolean) (λ t. widen t v lower upper id) (λ t ρ. says t ρ id && inside lower upper (ρ .place v))
+  widen-right : AnswersAlways (λ u. KnownTo u id) (v < firstBoolean) (λ t. widen t v lower upper id) (λ t ρ. says t ρ id && inside lower upper (ρ .place v))
   widen-right t z a h = widen-answers t z id a v h lower upper kl ku
 
   -- where the bounds are empty, what narrowing makes says what is asked
@@ -155,7 +155,7 @@ module _ (id v : ℕ) (lower upper : Bound) (kl : Keyed lower) (ku : Keyed upper
     emptied-here st index u s a h =
         emptied-as-asked (held st u) (holds-a-sound-table st index u s) (subst (λ (n : ℕ). KnownTo n id) (sym ((counts-what-is-held st index u s) .0)) a) h
 
-    narrow-empty-right : Right (λ u. KnownTo u id) (v < firstBoolean) (λ t. narrow t v lower upper id) (emptied id v lower upper)
+    narrow-empty-right : AnswersAlways (λ u. KnownTo u id) (v < firstBoolean) (λ t. narrow t v lower upper id) (emptied id v lower upper)
     narrow-empty-right t z a h = narrow-empty-answers t z id a v h lower upper kl ku e (emptied id v lower upper t) (emptied-as-asked t z a h)
 
 -- The calls that may add nodes: what the id says beside 0, and that 0 or 6 is told by whether there is room.
