@@ -20,16 +20,16 @@ use Rattle.diagram.proofs.Facts.{facts, is-node}
 use Rattle.diagram.proofs.Cofactors.{edge-other, count-own}
 use Rattle.algebra.specs.Conjunction.{opening, conj-node, conj}
 use Rattle.algebra.proofs.Conjoining.{opening-none}
-use Rattle.table.specs.Layout.{start, Store}
+use Rattle.table.specs.Layout.{varAt, start, Store}
 use Rattle.table.proofs.Laws.{split}
 use Rattle.merging.proofs.Conjoined as joined
 use Rattle.making.specs.declared.nodes.Used.{Used}
 use Rattle.making.specs.Outcome.{tableOf}
 use Rattle.views.specs.declared.View.{View}
-use Rattle.views.specs.Seeing.{Asked, Inside, Views, seen}
-use Rattle.views.proofs.Sights.{known-held, views-rising, views-kids, count-bool, seen-count}
+use Rattle.views.specs.Seeing.{Asked, Inside, Sees, Views, seen}
+use Rattle.views.proofs.Sights.{known-held, views-rising, views-kids, count-bool, seen-count, first-is, sees-views, call-left}
 use Rattle.walks.specs.Walking.{Ready, Sides, both}
-use Rattle.walks.proofs.Composing.{Grows, sound-of, can-read, call-left}
+use Rattle.walks.proofs.Composing.{Grows, sound-of, can-read}
 use Rattle.walks.proofs.Walk.{Walk}
 use Rattle.conjunction.specs.Joining.{Entry, pairs}
 
@@ -64,7 +64,7 @@ module _ {h : Used} {st : Store} {index memo : List ℕ} (r : Ready Entry h st i
     right-known = known-held st (h .nodes) y (ay .known)
 
     one-less : n ≡ suc (n - 1)
-    one-less = omega (arith, call-left r ax)
+    one-less = omega (arith, call-left (can-read r) x ax)
 
     enough : variables < min u w + n
     enough = omega (arith, ax .ahead, ay .ahead)
@@ -95,7 +95,19 @@ module _ {h : Used} {st : Store} {index memo : List ℕ} (r : Ready Entry h st i
       pub right-node : 2 ≤ y
       right-node = opening-none x y none .1
 
-      module _ {v : ℕ} {a b : View} (ev : v ≡ min u w) (hv : v < variables) (va : Views st (h .nodes) v x a) (vb : Views st (h .nodes) v y b) where
+      module _ {v : ℕ} {a b : View} (first : v ≡ min (varAt (st .nodes) (ref x - 1)) (varAt (st .nodes) (ref y - 1))) (sa : Sees (st .nodes) v x a) (sb : Sees (st .nodes) v y b) where
+        ev : v ≡ min u w
+        ev = first-is (can-read r) x y left-node (ax .known) right-node (ay .known) first .0
+
+        hv : v < variables
+        hv = first-is (can-read r) x y left-node (ax .known) right-node (ay .known) first .1
+
+        va : Views st (h .nodes) v x a
+        va = sees-views (can-read r) x (ax .known) hv sa
+
+        vb : Views st (h .nodes) v y b
+        vb = sees-views (can-read r) y (ay .known) hv sb
+
         lx : Child t v x
         lx = (left-known, omega (arith, ev))
 
@@ -104,7 +116,7 @@ module _ {h : Used} {st : Store} {index memo : List ℕ} (r : Ready Entry h st i
 
         -- A side that tests the variable has two edges or more, and one that does not has one.
         many : (id : ℕ) (c : View) → Known t id → Views st (h .nodes) v id c → (at t (ref id)) .var ≡ v → 2 ≤ c .count
-        many id c k vc e = omega (arith, facts t (sound-of (r .lent)) (ref id) (is-node t (ref id) (omega (arith, e))) k .many, count-own t v id e, ap count (vc .edges), seen-count (st .children) (st .cuts) v c (vc .inside .some))
+        many id c k vc e = omega (arith, facts t (sound-of (r .lent)) (ref id) (is-node t (ref id) (omega (arith, e, hv))) k .many, count-own t v id e, ap count (vc .edges), seen-count (st .children) (st .cuts) v c (vc .inside .some))
 
         one : (id : ℕ) (c : View) → Views st (h .nodes) v id c → ((at t (ref id)) .var ≡ v → ⊥) → c .count ≡ 1
         one id c vc e = sym (seen-count (st .children) (st .cuts) v c (vc .inside .some)) ∙ (ap count (vc .edges) ∙ ap count (edge-other t v id e))
@@ -122,7 +134,7 @@ module _ {h : Used} {st : Store} {index memo : List ℕ} (r : Ready Entry h st i
         pub sides : Sides t (h .edges) (st .children) (st .cuts) v (n - 1) a b
         sides = record {
           known = hv;
-          enough = omega (arith, enough, ev, call-left r ax);
+          enough = omega (arith, enough, ev, call-left (can-read r) x ax);
           tested = tested;
           left = within (va .inside);
           right = within (vb .inside);

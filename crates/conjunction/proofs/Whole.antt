@@ -10,20 +10,20 @@ use Rattle.algebra.specs.Conjunction.{and, or}
 use Rattle.making.specs.declared.nodes.Used.{Used}
 use Rattle.making.specs.declared.nodes.Made.{Made}
 use Rattle.walks.specs.Walking.{Worked}
+use Rattle.conjunction.specs.Joining.{Entry}
 use Rattle.table.specs.Layout.{Store}
 
 pub or-joined : {h : Used} (t : Table) (x y : ℕ) {m : Made} {st : Store} {index memo : List ℕ} {st′ : Store} {index′ memo′ : List ℕ} (i j : ℕ) → i ≡ flip x → j ≡ flip y
-    → Worked h (and t i j) m st index memo st′ index′ memo′ → (id : NodeId) → id .0 ≡ flip (m .id .0)
-    → Worked h (or t x y) (record { ok = m .ok; id = id; used = m .used }) st index memo st′ index′ memo′
+    → Worked Entry h (and t i j) m st index memo st′ index′ memo′ → (id : NodeId) → id .0 ≡ flip (m .id .0)
+    → Worked Entry h (or t x y) (record { ok = m .ok; id = id; used = m .used }) st index memo st′ index′ memo′
 unfolding or
-or-joined t x y i j p q c id e = record {
-  outcome = record {
-    lent = c .outcome .lent;
-    stays = c .outcome .stays;
-    table = λ g. c .outcome .table g ∙ rw (p, q);
-    id = λ g. e ∙ ap flip (c .outcome .id g ∙ rw (p, q));
-    full = λ g f. c .outcome .full g (rw (p, q) f);
-  };
-  untouched = c .untouched;
-  zeroed = c .zeroed;
-}
+or-joined t x y i j p q c id e =
+    let o = c .creates .outcome in
+    record {
+      creates = record {
+        outcome = record { lent = o .lent; stays = o .stays; table = λ g. o .table g ∙ rw (p, q); id = λ g. e ∙ ap flip (o .id g ∙ rw (p, q)); full = λ g f. o .full g (rw (p, q) f) };
+        untouched = c .creates .untouched;
+      };
+      long = c .long;
+      recalled = c .recalled;
+    }

@@ -1,21 +1,19 @@
-// Conjunction and disjunction of two ids, the checks 1 to 5 being done. `and` and `or` of the source.
-ghost use mathlib.Core.Path.{_≡_};
-ghost use Prim.Native.Nat.{_*_};
-ghost use lib.ListN.{length};
+// Conjunction and disjunction of two ids, the checks 1 to 5 being done. `and` and `or` of the source. The memo's entries have to be true of
+// the table; beside an answer they are so again, for an operation that may follow.
 ghost use Rattle.ids.specs.Index.{KnownTo};
 ghost use Rattle.algebra.specs.Conjunction.{and as conjunction, or as disjunction};
-ghost use Rattle.table.specs.Layout.{room, store};
-ghost use Rattle.making.specs.Outcome.{Lent, tableOf};
-ghost use Rattle.walks.specs.Walking.{Worked};
+ghost use Rattle.table.specs.Layout.{store};
+ghost use Rattle.making.specs.Outcome.{tableOf};
+ghost use Rattle.walks.specs.Walking.{Ready, Worked};
+ghost use Rattle.conjunction.specs.Joining.{Entry};
 use super::pairs::conjoin;
 use ids::NodeId;
 use making::nodes::Made;
 use making::nodes::Used;
-use table::fresh::zero_words;
 use table::limits::VARIABLES;
 use walks::finish::finish;
 
-// "The memo is scratch: zeroed at entry".
+// Both: the pair walk from the two ids, and its end.
 pub fn and(
     nodes: &mut [u32],
     children: &mut [u32],
@@ -26,10 +24,9 @@ pub fn and(
     x: NodeId,
     y: NodeId,
 ) -> Made
-    requires { ⌜ (Lent used (store (now nodes) (now children) (now cuts)) (now index)) × (length (now memo) ≡ room (now nodes) * 3) × (KnownTo (used .nodes) (x .0)) × (KnownTo (used .nodes) (y .0)) ⌝ }
-    ensures { λ r. ⌜ Worked used (conjunction (tableOf used (store (now (nodes .entry)) (now (children .entry)) (now (cuts .entry)))) (x .0) (y .0)) r (store (now (nodes .entry)) (now (children .entry)) (now (cuts .entry))) (now (index .entry)) (now (memo .entry)) (store (now (nodes .exit)) (now (children .exit)) (now (cuts .exit))) (now (index .exit)) (now (memo .exit)) ⌝ }
+    requires { ⌜ (Ready Entry used (store (now nodes) (now children) (now cuts)) (now index) (now memo)) × (KnownTo (used .nodes) (x .0)) × (KnownTo (used .nodes) (y .0)) ⌝ }
+    ensures { λ r. ⌜ Worked Entry used (conjunction (tableOf used (store (now (nodes .entry)) (now (children .entry)) (now (cuts .entry)))) (x .0) (y .0)) r (store (now (nodes .entry)) (now (children .entry)) (now (cuts .entry))) (now (index .entry)) (now (memo .entry)) (store (now (nodes .exit)) (now (children .exit)) (now (cuts .exit))) (now (index .exit)) (now (memo .exit)) ⌝ }
 {
-    zero_words(memo);
     let m = conjoin(
         nodes,
         children,
@@ -41,7 +38,7 @@ pub fn and(
         y,
         VARIABLES + 1,
     );
-    finish(nodes, children, cuts, index, memo, m, used.nodes)
+    finish(nodes, children, cuts, index, m, used.nodes)
 }
 
 // "`or` by negation."
@@ -55,8 +52,8 @@ pub fn or(
     x: NodeId,
     y: NodeId,
 ) -> Made
-    requires { ⌜ (Lent used (store (now nodes) (now children) (now cuts)) (now index)) × (length (now memo) ≡ room (now nodes) * 3) × (KnownTo (used .nodes) (x .0)) × (KnownTo (used .nodes) (y .0)) ⌝ }
-    ensures { λ r. ⌜ Worked used (disjunction (tableOf used (store (now (nodes .entry)) (now (children .entry)) (now (cuts .entry)))) (x .0) (y .0)) r (store (now (nodes .entry)) (now (children .entry)) (now (cuts .entry))) (now (index .entry)) (now (memo .entry)) (store (now (nodes .exit)) (now (children .exit)) (now (cuts .exit))) (now (index .exit)) (now (memo .exit)) ⌝ }
+    requires { ⌜ (Ready Entry used (store (now nodes) (now children) (now cuts)) (now index) (now memo)) × (KnownTo (used .nodes) (x .0)) × (KnownTo (used .nodes) (y .0)) ⌝ }
+    ensures { λ r. ⌜ Worked Entry used (disjunction (tableOf used (store (now (nodes .entry)) (now (children .entry)) (now (cuts .entry)))) (x .0) (y .0)) r (store (now (nodes .entry)) (now (children .entry)) (now (cuts .entry))) (now (index .entry)) (now (memo .entry)) (store (now (nodes .exit)) (now (children .exit)) (now (cuts .exit))) (now (index .exit)) (now (memo .exit)) ⌝ }
 {
     let m = and(nodes, children, cuts, index, memo, used, x.not(), y.not());
     let id = m.id;

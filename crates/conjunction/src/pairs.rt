@@ -17,8 +17,8 @@ use making::edges::Edges;
 use making::edges::slot_for;
 use making::nodes::Made;
 use making::nodes::Used;
-use making::nodes::create_node;
 use making::nodes::create_pair;
+use making::nodes::settle;
 use table::limits::FIRST_BOOLEAN;
 use table::limits::RECORD_WORDS;
 use views::View;
@@ -58,9 +58,9 @@ pub fn conjoin(
         let id = s.id;
         return Made { ok: true, id, used };
     }
-    let v = first_variable(nodes, children, cuts, used.nodes, x, y);
-    let a = view_of(nodes, children, cuts, used.nodes, x, v);
-    let b = view_of(nodes, children, cuts, used.nodes, y, v);
+    let v = first_variable(nodes, x, y);
+    let a = view_of(nodes, x, v);
+    let b = view_of(nodes, y, v);
     let m = apply(nodes, children, cuts, index, memo, used, a, b, v, ahead - 1);
     if m.ok {
         let id = m.id;
@@ -176,5 +176,5 @@ fn apply_ranges(
         };
     }
     out.len = len;
-    create_node(nodes, children, cuts, index, now, v, out)
+    settle(nodes, children, cuts, index, now, v, out)
 }
