@@ -70,9 +70,8 @@ pub record Finishes (keep : ℕ) (m : Made) (st : Store) (index : List ℕ) (r :
   pub kept : m .ok ≡ true → (r ≡ m) × Untouched st index st′ index′
   pub taken : m .ok ≡ false → (r .ok ≡ false) × TakenBack keep (m .used) st (r .used) st′ index′
 
--- What a whole operation leaves: its outcome, and nothing else where there was no room; and beside an answer a memo that is still true, for
--- an operation that may follow.
-pub record Worked (P : Note) (h : Used) (want : Table × ℕ) (r : Made) (st : Store) (index memo : List ℕ) (st′ : Store) (index′ memo′ : List ℕ) : Type 0 where
+-- What a whole operation leaves: its outcome, and nothing else where there was no room. The memo keeps its length; what it holds is the
+-- caller's to clear.
+pub record Worked (h : Used) (want : Table × ℕ) (r : Made) (st : Store) (index memo : List ℕ) (st′ : Store) (index′ memo′ : List ℕ) : Type 0 where
   pub creates : Creates h want r st index st′ index′
   pub long : length memo′ ≡ length memo
-  pub recalled : r .ok ≡ true → Memo (P (tableOf (r .used) st′)) memo′

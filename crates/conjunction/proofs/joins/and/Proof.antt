@@ -1,7 +1,7 @@
 -- `joins::and` meets its contract: the pair walk, and the end of an operation. Assumes nothing.
 use borrow.Author.Needs.{needs}
 use Rattle.views.proofs.Sights.{asked-all}
-use Rattle.walks.proofs.Finished.{worked}
+use Rattle.walks.proofs.Finished.{worked, still-recalled}
 use Rattle.conjunction.proofs.joins.and.Statement.{statement}
 use Rattle.conjunction.proofs.joins.and.Tie as tie
 
@@ -12,7 +12,7 @@ same-length-5 : tie.Need-same-length-5
 same-length-5 c = (c .before .before .before .before .before .before .before .before .before .before .before .before .before .before .before .before .before .before .before .before .before .conjoin .ensures .long)
 
 returns : tie.Need-returns
-returns c = worked (c .before .before .before .before .before .before .before .before .before .before .before .before .before .before .before .before .before .before .before .before .before .before .before .before .before .before .before .before .before .before .before .pre .0) (c .before .before .before .before .before .before .before .before .before .before .before .before .before .before .before .before .before .before .before .before .before .conjoin .ensures) (c .before .before .before .before .before .before .before .finish .ensures)
+returns c = record { worked = worked (c .before .before .before .before .before .before .before .before .before .before .before .before .before .before .before .before .before .before .before .before .before .before .before .before .before .before .before .before .before .before .before .pre .0 .lent) (c .before .before .before .before .before .before .before .before .before .before .before .before .before .before .before .before .before .before .before .before .before .conjoin .ensures) (c .before .before .before .before .before .before .before .finish .ensures); recalled = still-recalled (c .before .before .before .before .before .before .before .before .before .before .before .before .before .before .before .before .before .before .before .before .before .before .before .before .before .before .before .before .before .before .before .pre .0 .lent) (c .before .before .before .before .before .before .before .before .before .before .before .before .before .before .before .before .before .before .before .before .before .conjoin .ensures) (c .before .before .before .before .before .before .before .finish .ensures) }
 
 pub and-spec : {M : Type 1} → statement M
 and-spec = tie.close (tie.spec
