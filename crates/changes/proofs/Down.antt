@@ -25,16 +25,17 @@ use Rattle.merging.proofs.Descent.{change-made, change-before, change-here, cha
 use Rattle.making.specs.declared.edges.Edges as built
 use Rattle.making.specs.declared.nodes.Used.{Used}
 use Rattle.making.specs.declared.nodes.Made as code
-use Rattle.making.specs.Outcome.{Outcome, tableOf}
+use Rattle.making.specs.Outcome.{Outcome, tableOf, Mergeable}
 use Rattle.views.specs.declared.View.{View}
 use Rattle.views.specs.Seeing.{Asked, Inside, Views, childSeen, cutSeen, seen}
-use Rattle.views.proofs.Sights.{known-held, views-rising, views-kids}
+use Rattle.views.proofs.Sights.{known-held, views-rising, views-kids, call-left}
 use Rattle.walks.specs.Recalling.{Hit}
-use Rattle.walks.specs.Walking.{Ready, Stepped, Mergeable, NodeOver, over}
+use Rattle.walks.specs.Walking.{Ready, Stepped}
+use Rattle.changes.specs.Turning.{NodeOver, over}
 use Rattle.walks.proofs.Recalled.{memo-hit}
-use Rattle.walks.proofs.Composing.{Grows, sound-of, can-read, call-left, settled, made-here, becomes}
+use Rattle.walks.proofs.Composing.{Grows, sound-of, can-read, settled, made-here, becomes}
 use Rattle.walks.proofs.Booleans.{inside-still}
-use Rattle.walks.proofs.Gathering.{Gather, Side, gather-starts, edge-inside, kid-asked, gather-step, gather-falls, can-merge, gathered}
+use Rattle.changes.proofs.Gathering.{Gather, Side, gather-starts, edge-inside, kid-asked, gather-step, gather-falls, can-merge, gathered}
 use Rattle.changes.specs.Changed.{Changed, changed}
 use Rattle.table.specs.Layout.{Store}
 
@@ -87,7 +88,7 @@ module _ (v : ℕ) (hv : v < variables) (g : Pieces ℕ → Pieces ℕ) (ch : Ch
 
         -- with a call left for each,
         pub enough : variables < suc u + (n - 1)
-        enough = omega (arith, eu, q .ahead, call-left r q)
+        enough = omega (arith, eu, q .ahead, call-left (can-read r) id q)
 
         pub kid-made : (w : Table) → Sound w → Continues t w → (x : ℕ) → Child t (suc u) x → Made w (suc u) (means v hv g ch variables t x) (changed v g w x)
         kid-made w z c x k = change-made v hv g ch t (sound-of (r .lent)) u earlier w z c x k

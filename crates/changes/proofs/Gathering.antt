@@ -17,11 +17,9 @@ use Rattle.diagram.specs.Room.{mostEdges, Fits}
 use Rattle.diagram.specs.Sound.{Child, Sound, Continues}
 use Rattle.diagram.proofs.Continuing.{continues-child}
 use Rattle.diagram.proofs.Numbered.{run-shift}
-use Rattle.algebra.specs.Overlay.{merge}
-use Rattle.algebra.specs.Making.{settle, create-node}
+use Rattle.algebra.specs.Making.{create-node}
 use Rattle.algebra.specs.Conjunction.{walkIn, create-over}
 use Rattle.algebra.proofs.Made.{Made}
-use Rattle.algebra.proofs.Overlays.{reduced-merge, each-merge}
 use Rattle.table.specs.Layout.{room, Store}
 use Rattle.table.proofs.Laws.{split, clash}
 use Rattle.merging.proofs.Turning.{turn, tableAt, answerAt, table-next, answer-is, turns, turn-inside, turn-apart, turn-turn, answer-child, full-turn, each-of, rising-of}
@@ -33,11 +31,12 @@ use Rattle.making.specs.declared.edges.Edges as built
 use Rattle.making.specs.declared.nodes.Used.{Used}
 use Rattle.making.specs.declared.nodes.Made as code
 use Rattle.making.specs.Building.{Building, none, childIn, cutIn, piecesOf}
-use Rattle.making.specs.Outcome.{Stays, Outcome, Buildable, tableOf}
+use Rattle.making.specs.Outcome.{Stays, Outcome, Mergeable, tableOf}
 use Rattle.making.proofs.Kept.{stays-here, stays-trans, continued}
-use Rattle.walks.specs.Walking.{Note, Ready, Stepped, Mergeable, NodeOver, over}
+use Rattle.walks.specs.Walking.{Note, Ready, Stepped}
+use Rattle.changes.specs.Turning.{NodeOver, over}
 use Rattle.walks.proofs.Composing.{Grows, sound-of, ready-after, then-made, becomes, noted}
 use Rattle.walks.proofs.Booleans.{asked-kid}
 
 module _ (f : Table → ℕ → Table × ℕ) (h : Used) (st : Store) (memo : List ℕ) (a : View) (u : ℕ) where
   abbrev t : Table
@@ -281,26 +280,12 @@ module _ (f : Table → ℕ → Table × ℕ) (h : Used) (st : Store) (memo : Li
                 let z = v .nothing bad in
                 record {
                   outcome = record {
-                    lent = rw (z .1, z .2 .nodes-same, z .2 .children-same, z .2 .cuts-same, z .2 .index-same) (l .ready .lent);
-                    stays = rw (z .1, z .2 .nodes-same, z .2 .children-same, z .2 .cuts-same) (l .stays);
+                    lent = rw (z .1, z .2 .same, z .2 .index-same) (l .ready .lent);
+                    stays = rw (z .1, z .2 .same) (l .stays);
                     table = λ q. absurd (clash (z .0) q);
                     id = λ q. absurd (clash (z .0) q);
                     full = λ q. l .full bad .1;
                   };
                   long = rw (z .3) (l .long);
-                  recalled = rw (z .1, z .2 .nodes-same, z .2 .children-same, z .2 .cuts-same, z .3) (l .ready .recalled);
+                  recalled = rw (z .1, z .2 .same, z .3) (l .ready .recalled);
                 }
-
--- Merged edges can be built with, and the node over them is the node over the edges.
-module _ {b : Table} {v : ℕ} {es : built.Edges} (k : Mergeable b v es) {r : built.Edges} (e : Building r × (piecesOf r ≡ merge (piecesOf es))) where
-  pub merged-builds : Buildable b v r
-  merged-builds = record {
-    building = e .0;
-    known = k .known;
-    reduced = subst (Reduced 0 (topOf v)) (sym (e .1)) (reduced-merge 0 (topOf v) (piecesOf es) (k .rises));
-    kids = subst (Each (Child b (suc v))) (sym (e .1)) (each-merge (Child b (suc v)) (piecesOf es) (k .kids));
-  }
-
-  pub merged-settles : {h : Used} {o : code.Made} {st : Store} {st′ : Store} {index′ : List ℕ}
-      → Outcome h (settle b v (piecesOf r)) o st st′ index′ → Outcome h (create-node b v (piecesOf es)) o st st′ index′
-  merged-settles {h} {o} {st} {st′} {index′} x = subst (λ (p : Pieces ℕ). Outcome h (settle b v p) o st st′ index′) (e .1) x

@@ -1,43 +1,35 @@
--- What an id shows at the variable of a change, a terminal being an id like others. Assumes nothing.
+-- Whether an id tests an earlier variable, as the code tests it, a terminal being an id like others. Assumes nothing.
 use mathlib.Core.Path.{_≡_, sym, _∙_, ap}
-use mathlib.Core.Bool.{false}
-use mathlib.Core.List.{List}
-use Prim.Native.Nat.{ℕ, _<_}
+use mathlib.Core.Bool.{Bool, _&&_}
+use mathlib.Core.Logic.{⊎-elim}
+use Prim.Native.Nat.{ℕ, _-_, _≤_, _<_}
 use native.Mathlib.Omega.{arith}
+use borrow.Author.Tests.{lt-ltb, le-ltb}
 use lib.Dec.{ltb}
-use lib.IntN.{ℤ}
 use Rattle.ids.specs.Id.{ref}
-use Rattle.diagram.specs.Pieces.{last}
+use Rattle.ids.specs.Index.{KnownTo}
 use Rattle.diagram.specs.Table.{variables, Node, Table, at}
 use Rattle.diagram.proofs.Lookup.{at-end}
-use Rattle.diagram.proofs.Cofactors.{edge-other}
 use Rattle.algebra.specs.Changing.{isBefore}
-use Rattle.merging.proofs.Descent.{is-not-before}
+use Rattle.table.specs.Layout.{varAt, Store}
 use Rattle.table.specs.Held.{held}
-use Rattle.views.specs.declared.View.{View}
-use Rattle.views.specs.Seeing.{Views}
-use Rattle.views.proofs.Sights.{seen-one, childSeen-own}
-use Rattle.table.specs.Layout.{Store}
+use Rattle.table.proofs.Laws.{split}
+use Rattle.merging.proofs.Descent.{is-not-before}
+use Rattle.views.specs.Seeing.{Readable}
+use Rattle.views.proofs.Sights.{variable-is}
 
--- whether an id tests an earlier variable, as the code tests it
-pub before-test : (t : Table) (u v id : ℕ) → u ≡ (at t (ref id)) .var → ltb u v ≡ isBefore t v id
+pub before-is : {st : Store} {u : ℕ} → Readable st u → (id : ℕ) → KnownTo u id → {v : ℕ} → v < variables → {b : Bool} → b ≡ (ltb 1 id && ltb (varAt (st .nodes) (ref id - 1)) v) → b ≡ isBefore (held st u) v id
 unfolding isBefore
-before-test t u v id e = ap (λ (w : ℕ). ltb w v) e
+before-is {st} {u} r id k {v} hv e = e ∙ ⊎-elim end node (split id 2)
+  where
+    t : Table
+    t = held st u
 
-module _ {v id : ℕ} (e : id < 2) (hv : v < variables) where
-  -- a terminal is later than each variable
-  end-later : (t : Table) → v < (at t (ref id)) .var
-  end-later t = let r : ref id ≡ 0 = omega arith in omega (arith, ap (λ (n : ℕ). (at t n) .var) r ∙ ap (λ (nd : Node). nd .var) (at-end t))
+    end : id < 2 → (ltb 1 id && ltb (varAt (st .nodes) (ref id - 1)) v) ≡ isBefore t v id
+    end l =
+        let z : ref id ≡ 0 = omega arith in
+        let w = ap (λ (n : ℕ). (at t n) .var) z ∙ ap (λ (nd : Node). nd .var) (at-end t) in
+        rw (le-ltb 1 id (omega arith)) (sym (is-not-before t v id (omega (arith, w))))
 
-  -- and so tests none before one
-  pub end-not-before : (t : Table) → false ≡ isBefore t v id
-  end-not-before t = sym (is-not-before t v id (omega (arith, end-later t)))
-
-  -- it stands for itself
-  pub end-seen : {st : Store} {u : ℕ} {w : View} → w .id .0 ≡ id → w .count ≡ 1 → Views st u v id w
-  end-seen {st} {u} {w} i k =
-      let t = held st u in
-      record {
-        inside = record { some = omega arith; most = omega arith; within = λ l. absurd (omega arith) };
-        edges = seen-one (st .children) (st .cuts) v w k ∙ (ap last (childSeen-own (st .children) w 0 k ∙ i) ∙ sym (edge-other t v id (λ q. omega (arith, end-later t))));
-      }
+    node : 2 ≤ id → (ltb 1 id && ltb (varAt (st .nodes) (ref id - 1)) v) ≡ isBefore t v id
+    node l = rw (lt-ltb 1 id (omega arith)) (ap (λ (w : ℕ). ltb w v) (variable-is r id k l (λ i. varAt (st .nodes) (ref id - 1))))

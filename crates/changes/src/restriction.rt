@@ -1,40 +1,36 @@
 // Restriction of one boolean to a value. Document 01, step 7; `restrict` of the source, whose closure is the variable and the value.
 ghost use mathlib.Core.Path.{_≡_};
-ghost use mathlib.Core.Bool.{cond};
 ghost use Prim.Native.Nat.{_*_, _≤_, _<_};
 ghost use lib.ListN.{length};
 ghost use Rattle.ids.specs.Index.{KnownTo};
-ghost use Rattle.diagram.specs.Pieces.{select};
 ghost use Rattle.diagram.specs.Table.{firstBoolean, variables};
-ghost use Rattle.diagram.specs.Cofactor.{edgesOf};
 ghost use Rattle.algebra.specs.Changing.{restrict as restriction};
-ghost use Rattle.table.specs.Held.{held};
 ghost use Rattle.table.specs.Layout.{room, store};
 ghost use Rattle.making.specs.Outcome.{Lent, tableOf};
-ghost use Rattle.views.specs.Seeing.{Readable, Asked};
+ghost use Rattle.views.specs.Seeing.{Asked};
+ghost use Rattle.walks.specs.Recalling.{Cleared};
 ghost use Rattle.walks.specs.Walking.{Ready, Stepped, Worked};
 ghost use Rattle.changes.specs.Changed.{Changed, changed, restricting};
-use super::sights::is_before;
-use super::sights::view_at;
+use super::turns::cut_of;
+use super::turns::left_after;
+use super::turns::node_over;
+use super::turns::turn;
 use ids::NodeId;
 use making::edges::Edge;
 use making::edges::Edges;
 use making::nodes::Made;
 use making::nodes::Used;
-use table::fresh::zero_words;
 use table::limits::FIRST_BOOLEAN;
 use table::limits::RECORD_WORDS;
 use table::limits::VARIABLES;
 use views::child;
+use views::is_before;
 use views::variable;
+use views::view_at;
 use views::view_of;
 use walks::finish::finish;
 use walks::memo::recall;
-use walks::nodes::node_over;
-use walks::steps::cut_of;
 use walks::steps::edge_of;
-use walks::steps::left_after;
-use walks::steps::turn;
 
 // "Naming a range variable returns the id unchanged, as in the source."
 pub fn restrict(
@@ -48,10 +44,9 @@ pub fn restrict(
     v: usize,
     value: bool,
 ) -> Made
-    requires { ⌜ (Lent used (store (now nodes) (now children) (now cuts)) (now index)) × (length (now memo) ≡ room (now nodes) * 3) × (KnownTo (used .nodes) (id .0)) × (v < variables) ⌝ }
+    requires { ⌜ (Lent used (store (now nodes) (now children) (now cuts)) (now index)) × (length (now memo) ≡ room (now nodes) * 3) × (Cleared (now memo)) × (KnownTo (used .nodes) (id .0)) × (v < variables) ⌝ }
     ensures { λ r. ⌜ Worked used (restriction (tableOf used (store (now (nodes .entry)) (now (children .entry)) (now (cuts .entry)))) v value (id .0)) r (store (now (nodes .entry)) (now (children .entry)) (now (cuts .entry))) (now (index .entry)) (now (memo .entry)) (store (now (nodes .exit)) (now (children .exit)) (now (cuts .exit))) (now (index .exit)) (now (memo .exit)) ⌝ }
 {
-    zero_words(memo);
     if v < FIRST_BOOLEAN {
         return Made { ok: true, id, used };
     }
@@ -67,25 +62,7 @@ pub fn restrict(
         value,
         VARIABLES + 1,
     );
-    finish(nodes, children, cuts, index, memo, m, used.nodes)
-}
-
-// The edge of the value, of an id that tests no variable before v: no node is made.
-fn chosen(
-    nodes: &[u32],
-    children: &[u32],
-    cuts: &[i64],
-    used: usize,
-    id: NodeId,
-    v: usize,
-    value: bool,
-) -> NodeId
-    requires { ⌜ (Readable (store (now nodes) (now children) (now cuts)) used) × (KnownTo used (id .0)) × (firstBoolean ≤ v) × (v < variables) ⌝ }
-    ensures { λ r. ⌜ r .0 ≡ select (edgesOf (held (store (now (nodes .entry)) (now (children .entry)) (now (cuts .entry))) used) v (id .0)) (cond value 0 1) ⌝ }
-{
-    let a = view_at(nodes, children, cuts, used, id, v);
-    let low = !value;
-    child(children, a, edge_of(a.count, low))
+    finish(nodes, children, cuts, index, m, used.nodes)
 }
 
 // "Restriction goes down one variable at a time": it calls itself on each child, ranges left to right and booleans low then high, and
@@ -105,8 +82,10 @@ pub fn restrict_from(
     requires { ⌜ (Ready (Changed v (restricting value)) used (store (now nodes) (now children) (now cuts)) (now index) (now memo)) × (Asked (tableOf used (store (now nodes) (now children) (now cuts))) (used .nodes) ahead (id .0)) × (firstBoolean ≤ v) × (v < variables) ⌝ }
     ensures { λ r. ⌜ Stepped (Changed v (restricting value)) used (changed v (restricting value) (tableOf used (store (now (nodes .entry)) (now (children .entry)) (now (cuts .entry)))) (id .0)) r (store (now (nodes .entry)) (now (children .entry)) (now (cuts .entry))) (now (memo .entry)) (store (now (nodes .exit)) (now (children .exit)) (now (cuts .exit))) (now (index .exit)) (now (memo .exit)) ⌝ }
 {
-    if !is_before(nodes, children, cuts, used.nodes, id, v) {
-        let to = chosen(nodes, children, cuts, used.nodes, id, v, value);
+    if !is_before(nodes, id, v) {
+        // At the variable the child of the value stands for the id, and no node is made. Past it the id stands for itself.
+        let here = view_at(nodes, id, v);
+        let to = child(children, here, edge_of(here.count, !value));
         return Made {
             ok: true,
             id: to,
@@ -118,8 +97,8 @@ pub fn restrict_from(
         let id = s.id;
         return Made { ok: true, id, used };
     }
-    let u = variable(nodes, children, cuts, used.nodes, id);
-    let a = view_of(nodes, children, cuts, used.nodes, id, u);
+    let u = variable(nodes, id);
+    let a = view_of(nodes, id, u);
     let mut out = Edges::new();
     let mut now = used;
     let mut ok = true;

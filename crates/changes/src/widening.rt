@@ -12,31 +12,31 @@ ghost use Rattle.algebra.specs.Changing.{isBefore, widen as widens};
 ghost use Rattle.table.specs.Layout.{room, store};
 ghost use Rattle.making.specs.Outcome.{Lent, Outcome, tableOf};
 ghost use Rattle.views.specs.Seeing.{Asked};
+ghost use Rattle.walks.specs.Recalling.{Cleared};
 ghost use Rattle.walks.specs.Walking.{Ready, Stepped, Worked};
 ghost use Rattle.changes.specs.Changed.{Changed, changed, widening};
-use super::sights::both_open;
-use super::sights::is_before;
-use super::sights::view_at;
+use super::turns::cut_of;
+use super::turns::left_after;
+use super::turns::node_over;
+use super::turns::turn;
 use ids::NodeId;
 use making::edges::Edge;
 use making::edges::Edges;
 use making::nodes::Made;
 use making::nodes::Used;
-use making::nodes::create_node;
+use making::nodes::settle;
 use ranges::bounds::Bound;
+use ranges::bounds::both_open;
 use ranges::spans::Range;
-use table::fresh::zero_words;
 use table::limits::RECORD_WORDS;
 use table::limits::VARIABLES;
 use views::child;
+use views::is_before;
 use views::variable;
+use views::view_at;
 use views::view_of;
 use walks::finish::finish;
 use walks::memo::recall;
-use walks::nodes::node_over;
-use walks::steps::cut_of;
-use walks::steps::left_after;
-use walks::steps::turn;
 
 // "Empty bounds give FALSE."
 pub fn widen(
@@ -51,10 +51,9 @@ pub fn widen(
     lower: Bound,
     upper: Bound,
 ) -> Made
-    requires { ⌜ (Lent used (store (now nodes) (now children) (now cuts)) (now index)) × (length (now memo) ≡ room (now nodes) * 3) × (KnownTo (used .nodes) (id .0)) × (v < firstBoolean) ⌝ }
+    requires { ⌜ (Lent used (store (now nodes) (now children) (now cuts)) (now index)) × (length (now memo) ≡ room (now nodes) * 3) × (Cleared (now memo)) × (KnownTo (used .nodes) (id .0)) × (v < firstBoolean) ⌝ }
     ensures { λ r. ⌜ Worked used (widens (tableOf used (store (now (nodes .entry)) (now (children .entry)) (now (cuts .entry)))) v lower upper (id .0)) r (store (now (nodes .entry)) (now (children .entry)) (now (cuts .entry))) (now (index .entry)) (now (memo .entry)) (store (now (nodes .exit)) (now (children .exit)) (now (cuts .exit))) (now (index .exit)) (now (memo .exit)) ⌝ }
 {
-    zero_words(memo);
     if both_open(lower, upper) {
         return Made { ok: true, id, used };
     }
@@ -78,7 +77,7 @@ pub fn widen(
         range,
         VARIABLES + 1,
     );
-    finish(nodes, children, cuts, index, memo, m, used.nodes)
+    finish(nodes, children, cuts, index, m, used.nodes)
 }
 
 // At the variable: "old answer and inside the bounds". An id that does not test it, and TRUE, get one node of it: FALSE, the id, FALSE,
@@ -96,7 +95,7 @@ fn widen_here(
     requires { ⌜ (Lent used (store (now nodes) (now children) (now cuts)) (now index)) × (KnownTo (used .nodes) (id .0)) × (isBefore (tableOf used (store (now nodes) (now children) (now cuts))) v (id .0) ≡ false) × (v < firstBoolean) × (range .first ≤ range .last) × (range .last ≤ top) ⌝ }
     ensures { λ r. ⌜ Outcome used (create-node (tableOf used (store (now (nodes .entry)) (now (children .entry)) (now (cuts .entry)))) v (widening v range (edgesOf (tableOf used (store (now (nodes .entry)) (now (children .entry)) (now (cuts .entry)))) v (id .0)))) r (store (now (nodes .entry)) (now (children .entry)) (now (cuts .entry))) (store (now (nodes .exit)) (now (children .exit)) (now (cuts .exit))) (now (index .exit)) ⌝ }
 {
-    let a = view_at(nodes, children, cuts, used.nodes, id, v);
+    let a = view_at(nodes, id, v);
     let c = clipping::widened(children, cuts, a, range);
     if !c.ok {
         return Made {
@@ -106,7 +105,7 @@ fn widen_here(
         };
     }
     let es = c.edges;
-    create_node(nodes, children, cuts, index, used, v, es)
+    settle(nodes, children, cuts, index, used, v, es)
 }
 
 // It calls itself on each child, "ranges left to right", and `ahead`, more than the variables that are still ahead, falls.
@@ -125,7 +124,7 @@ pub fn widen_from(
     requires { ⌜ (Ready (Changed v (widening v range)) used (store (now nodes) (now children) (now cuts)) (now index) (now memo)) × (Asked (tableOf used (store (now nodes) (now children) (now cuts))) (used .nodes) ahead (id .0)) × (v < firstBoolean) × (range .first ≤ range .last) × (range .last ≤ top) ⌝ }
     ensures { λ r. ⌜ Stepped (Changed v (widening v range)) used (changed v (widening v range) (tableOf used (store (now (nodes .entry)) (now (children .entry)) (now (cuts .entry)))) (id .0)) r (store (now (nodes .entry)) (now (children .entry)) (now (cuts .entry))) (now (memo .entry)) (store (now (nodes .exit)) (now (children .exit)) (now (cuts .exit))) (now (index .exit)) (now (memo .exit)) ⌝ }
 {
-    if !is_before(nodes, children, cuts, used.nodes, id, v) {
+    if !is_before(nodes, id, v) {
         return widen_here(nodes, children, cuts, index, used, id, v, range);
     }
     let s = recall(memo, nodes.len() / RECORD_WORDS, id, NodeId::TRUE);
@@ -133,8 +132,8 @@ pub fn widen_from(
         let id = s.id;
         return Made { ok: true, id, used };
     }
-    let u = variable(nodes, children, cuts, used.nodes, id);
-    let a = view_of(nodes, children, cuts, used.nodes, id, u);
+    let u = variable(nodes, id);
+    let a = view_of(nodes, id, u);
     let mut out = Edges::new();
     let mut now = used;
     let mut ok = true;

@@ -1,29 +1,34 @@
 -- `narrow_from` meets its contract: the way down, which calls itself on each child. Assumes nothing.
-use Prim.Native.Nat.{ℕ, _<_}
+use mathlib.Core.Path.{_≡_}
+use Prim.Native.Nat.{ℕ, _≤_, _<_}
 use native.Mathlib.Omega.{arith}
 use borrow.Author.Needs.{needs}
 use borrow.Fn.Kinds.{In}
 use borrow.Fn.PlainCycle.{Measures, is, falls, and}
 use Rattle.making.proofs.Taken.{cuts-as-long, index-as-long}
-use Rattle.walks.proofs.Composing.{can-read, call-left, cuts-long, index-long}
-use Rattle.walks.proofs.Gathering.{Gather}
+use Rattle.algebra.specs.Changing.{isBefore}
+use Rattle.making.specs.Outcome.{tableOf}
+use Rattle.views.proofs.Sights.{record-inside, variable-is, variable-known, sees-views, call-left}
+use Rattle.walks.proofs.Composing.{can-read, cuts-long, index-long}
+use Rattle.changes.proofs.Gathering.{Gather}
 use Rattle.changes.specs.Changed.{Changed, changed, narrowing}
+use Rattle.changes.proofs.Looking.{before-is}
 use Rattle.changes.proofs.Down.{not-before, still-before, stops, before-is-node, recalls, Entered, starts, in-children, in-cuts, in-view, in-slots, below-asked, steps, loop-falls, merges, arrives}
 use Rattle.changes.proofs.Ways.{is-variable, narrow-changes}
 use Rattle.changes.proofs.narrowing.narrow_from.Reads as narrow-from
 use Rattle.changes.proofs.narrowing.narrow_from.Kinds as narrow-from-kinds
 use Rattle.changes.proofs.narrowing.+narrow_from.Lts-narrow_from as narrow-from-lts
 use Rattle.changes.proofs.narrowing.narrow_here.Reads as narrow-here-reads
-use Rattle.changes.proofs.sights.is_before.Reads as is-before-reads
+use Rattle.views.proofs.is_before.Reads as is-before-reads
 use Rattle.making.proofs.edges.Edges.new.Reads as new-reads
 use Rattle.views.proofs.child.Reads as child-reads
 use Rattle.views.proofs.variable.Reads as variable-reads
 use Rattle.views.proofs.view_of.Reads as view-of-reads
 use Rattle.walks.proofs.memo.recall.Reads as recall-reads
-use Rattle.walks.proofs.nodes.node_over.Reads as node-over-reads
-use Rattle.walks.proofs.steps.cut_of.Reads as cut-of-reads
-use Rattle.walks.proofs.steps.left_after.Reads as left-after-reads
-use Rattle.walks.proofs.steps.turn.Reads as turn-reads
+use Rattle.changes.proofs.turns.node_over.Reads as node-over-reads
+use Rattle.changes.proofs.turns.cut_of.Reads as cut-of-reads
+use Rattle.changes.proofs.turns.left_after.Reads as left-after-reads
+use Rattle.changes.proofs.turns.turn.Reads as turn-reads
 use Rattle.changes.proofs.narrowing.+narrow_from.{statement}
 use Rattle.changes.proofs.narrowing.+narrow_from.Tie.{close}
 use Rattle.table.specs.Layout.{store}
@@ -51,10 +56,18 @@ abbrev narrow-from-claims : ℕ → narrow-from-lts.Claims
 narrow-from-claims t = (is-before-reads.Asked, is-before-reads.Learnt, narrow-here-reads.Asked, narrow-here-reads.Learnt, recall-reads.Asked, recall-reads.Learnt, variable-reads.Asked, variable-reads.Learnt, view-of-reads.Asked, view-of-reads.Learnt, new-reads.Asked, new-reads.Learnt, turn-reads.Asked, turn-reads.Learnt, cut-of-reads.Asked, cut-of-reads.Learnt, child-reads.Asked, child-reads.Learnt, narrow-from-below t, narrow-from.Post, left-after-reads.Asked, left-after-reads.Learnt, node-over-reads.Asked, node-over-reads.Learnt)
 
 narrow-from-is-before-requires : (t : ℕ) → narrow-from-lts.Need-is-before-requires (narrow-from-claims t) (narrow-from-at t) narrow-from.Post narrow-from-Inv-loop narrow-from-μ-loop
-narrow-from-is-before-requires t c κs = (can-read (c .before .before .before .before .before .before .before .pre .1 .0), c .before .before .before .before .before .before .before .pre .1 .1 .known, (is-variable (c .before .before .before .before .before .before .before .pre .1 .2)))
+narrow-from-is-before-requires t c κs = record-inside (can-read (c .before .before .before .before .before .pre .1 .0)) _ (c .before .before .before .before .before .pre .1 .1 .known)
+
+-- Whether the id tests an earlier variable,
+tests : (t : ℕ) (c : narrow-from-lts.After-is-before (narrow-from-claims t) (narrow-from-at t) narrow-from.Post narrow-from-Inv-loop narrow-from-μ-loop) → (c .is-before .result) ≡ isBefore (tableOf (c .before .before .before .before .before .before .args .used) (store (c .before .before .before .before .before .before .args .nodes .now) (c .before .before .before .before .before .before .args .children .now) (c .before .before .before .before .before .before .args .cuts .now))) (c .before .before .before .before .before .before .args .v) (c .before .before .before .before .before .before .args .id .0)
+tests t c = before-is (can-read (c .before .before .before .before .before .before .pre .1 .0)) _ (c .before .before .before .before .before .before .pre .1 .1 .known) (is-variable (c .before .before .before .before .before .before .pre .1 .2)) (c .is-before .ensures)
+
+-- and that it is a node where it does.
+node : (t : ℕ) (c : narrow-from-lts.Else1 (narrow-from-claims t) (narrow-from-at t) narrow-from.Post narrow-from-Inv-loop narrow-from-μ-loop) → 2 ≤ (c .before .before .before .before .before .before .before .args .id .0)
+node t c = before-is-node (c .before .before .before .before .before .before .before .pre .1 .0) (c .before .before .before .before .before .before .before .pre .1 .1) (is-variable (c .before .before .before .before .before .before .before .pre .1 .2)) (narrow-changes (c .before .before .before .before .before .before .before .pre .1 .2) (c .before .before .before .before .before .before .before .args .range) (c .before .before .before .before .before .before .before .pre .1 .4)) (tests t (c .before)) (c .if1 .left)
 
 narrow-from-narrow-here-requires : (t : ℕ) → narrow-from-lts.Need-narrow-here-requires (narrow-from-claims t) (narrow-from-at t) narrow-from.Post narrow-from-Inv-loop narrow-from-μ-loop
-narrow-from-narrow-here-requires t c κs = ((c .before .before .before .before .before .before .before .before .before .before .before .before .before .pre .1 .0 .lent), c .before .before .before .before .before .before .before .before .before .before .before .before .before .pre .1 .1 .known, not-before (c .before .before .before .before .before .is-before .ensures) (c .before .before .before .before .if1 .taken), c .before .before .before .before .before .before .before .before .before .before .before .before .before .pre .1 .2, c .before .before .before .before .before .before .before .before .before .before .before .before .before .pre .1 .3, c .before .before .before .before .before .before .before .before .before .before .before .before .before .pre .1 .4)
+narrow-from-narrow-here-requires t c κs = ((c .before .before .before .before .before .before .before .before .before .before .before .pre .1 .0 .lent), (c .before .before .before .before .before .before .before .before .before .before .before .pre .1 .1 .known), not-before (tests t (c .before .before .before .before .before)) (c .before .before .before .before .if1 .taken), (c .before .before .before .before .before .before .before .before .before .before .before .pre .1 .2), (c .before .before .before .before .before .before .before .before .before .before .before .pre .1 .3), (c .before .before .before .before .before .before .before .before .before .before .before .pre .1 .4))
 
 narrow-from-same-length : (t : ℕ) → narrow-from-lts.Need-same-length (narrow-from-claims t) (narrow-from-at t) narrow-from.Post narrow-from-Inv-loop narrow-from-μ-loop
 narrow-from-same-length t c = (c .before .before .before .before .before .before .before .narrow-here .ensures .stays .long)
@@ -63,29 +76,29 @@ narrow-from-same-length-2 : (t : ℕ) → narrow-from-lts.Need-same-length-2 (na
 narrow-from-same-length-2 t c = (c .before .before .before .before .before .before .before .narrow-here .ensures .stays .wide)
 
 narrow-from-same-length-3 : (t : ℕ) → narrow-from-lts.Need-same-length-3 (narrow-from-claims t) (narrow-from-at t) narrow-from.Post narrow-from-Inv-loop narrow-from-μ-loop
-narrow-from-same-length-3 t c = cuts-as-long (c .before .before .before .before .before .before .before .before .before .before .before .before .before .before .before .before .before .before .before .before .before .pre .1 .0 .lent .allowed) (c .before .before .before .before .before .before .before .narrow-here .ensures .lent .allowed) (c .before .before .before .before .before .before .before .narrow-here .ensures .stays .wide)
+narrow-from-same-length-3 t c = cuts-as-long (c .before .before .before .before .before .before .before .before .before .before .before .before .before .before .before .before .before .before .before .pre .1 .0 .lent .allowed) (c .before .before .before .before .before .before .before .narrow-here .ensures .lent .allowed) (c .before .before .before .before .before .before .before .narrow-here .ensures .stays .wide)
 
 narrow-from-same-length-4 : (t : ℕ) → narrow-from-lts.Need-same-length-4 (narrow-from-claims t) (narrow-from-at t) narrow-from.Post narrow-from-Inv-loop narrow-from-μ-loop
-narrow-from-same-length-4 t c = index-as-long (c .before .before .before .before .before .before .before .before .before .before .before .before .before .before .before .before .before .before .before .before .before .pre .1 .0 .lent .allowed) (c .before .before .before .before .before .before .before .narrow-here .ensures .lent .allowed) (c .before .before .before .before .before .before .before .narrow-here .ensures .stays .long)
+narrow-from-same-length-4 t c = index-as-long (c .before .before .before .before .before .before .before .before .before .before .before .before .before .before .before .before .before .before .before .pre .1 .0 .lent .allowed) (c .before .before .before .before .before .before .before .narrow-here .ensures .lent .allowed) (c .before .before .before .before .before .before .before .narrow-here .ensures .stays .long)
 
 narrow-from-returns : (t : ℕ) → narrow-from-lts.Need-returns (narrow-from-claims t) (narrow-from-at t) narrow-from.Post narrow-from-Inv-loop narrow-from-μ-loop
-narrow-from-returns t c = stops (c .before .before .before .before .before .before .before .before .before .before .before .before .before .before .before .before .before .before .before .before .before .pre .1 .0) (c .before .before .before .before .before .before .before .before .before .before .before .before .before .before .before .before .before .before .before .before .before .pre .1 .1) (is-variable (c .before .before .before .before .before .before .before .before .before .before .before .before .before .before .before .before .before .before .before .before .before .pre .1 .2)) (narrow-changes (c .before .before .before .before .before .before .before .before .before .before .before .before .before .before .before .before .before .before .before .before .before .pre .1 .2) (c .before .before .before .before .before .before .before .before .before .before .before .before .before .before .before .before .before .before .before .before .before .args .range) (c .before .before .before .before .before .before .before .before .before .before .before .before .before .before .before .before .before .before .before .before .before .pre .1 .4)) (c .before .before .before .before .before .before .before .before .before .before .before .before .before .is-before .ensures) (c .before .before .before .before .before .before .before .before .before .before .before .before .if1 .taken) (c .before .before .before .before .before .before .before .narrow-here .ensures)
+narrow-from-returns t c = stops (c .before .before .before .before .before .before .before .before .before .before .before .before .before .before .before .before .before .before .before .pre .1 .0) (c .before .before .before .before .before .before .before .before .before .before .before .before .before .before .before .before .before .before .before .pre .1 .1) (is-variable (c .before .before .before .before .before .before .before .before .before .before .before .before .before .before .before .before .before .before .before .pre .1 .2)) (narrow-changes (c .before .before .before .before .before .before .before .before .before .before .before .before .before .before .before .before .before .before .before .pre .1 .2) (c .before .before .before .before .before .before .before .before .before .before .before .before .before .before .before .before .before .before .before .args .range) (c .before .before .before .before .before .before .before .before .before .before .before .before .before .before .before .before .before .before .before .pre .1 .4)) (tests t (c .before .before .before .before .before .before .before .before .before .before .before .before .before)) (c .before .before .before .before .before .before .before .before .before .before .before .before .if1 .taken) (c .before .before .before .before .before .before .before .narrow-here .ensures)
 
 narrow-from-recall-requires : (t : ℕ) → narrow-from-lts.Need-recall-requires (narrow-from-claims t) (narrow-from-at t) narrow-from.Post narrow-from-Inv-loop narrow-from-μ-loop
-narrow-from-recall-requires t c κs = ((c .before .before .before .before .before .before .before .before .before .before .pre .1 .0 .lent .allowed .some-nodes), (c .before .before .before .before .before .before .before .before .before .before .pre .1 .0 .lent .allowed .most-nodes), (c .before .before .before .before .before .before .before .before .before .before .pre .1 .0 .long))
+narrow-from-recall-requires t c κs = ((c .before .before .before .before .before .before .before .before .pre .1 .0 .lent .allowed .some-nodes), (c .before .before .before .before .before .before .before .before .pre .1 .0 .lent .allowed .most-nodes), (c .before .before .before .before .before .before .before .before .pre .1 .0 .long))
 
 narrow-from-returns-2 : (t : ℕ) → narrow-from-lts.Need-returns-2 (narrow-from-claims t) (narrow-from-at t) narrow-from.Post narrow-from-Inv-loop narrow-from-μ-loop
-narrow-from-returns-2 t c = recalls (c .before .before .before .before .before .before .before .before .before .before .before .before .before .pre .1 .0) (c .before .before .before .before .before .before .before .before .before .before .before .before .before .pre .1 .1) (is-variable (c .before .before .before .before .before .before .before .before .before .before .before .before .before .pre .1 .2)) (narrow-changes (c .before .before .before .before .before .before .before .before .before .before .before .before .before .pre .1 .2) (c .before .before .before .before .before .before .before .before .before .before .before .before .before .args .range) (c .before .before .before .before .before .before .before .before .before .before .before .before .before .pre .1 .4)) (c .before .before .before .before .before .is-before .ensures) (c .before .before .before .before .if1 .left) _ ((c .before .before .recall .ensures) (c .before .if2 .taken))
+narrow-from-returns-2 t c = recalls (c .before .before .before .before .before .before .before .before .before .before .before .pre .1 .0) (c .before .before .before .before .before .before .before .before .before .before .before .pre .1 .1) (is-variable (c .before .before .before .before .before .before .before .before .before .before .before .pre .1 .2)) (narrow-changes (c .before .before .before .before .before .before .before .before .before .before .before .pre .1 .2) (c .before .before .before .before .before .before .before .before .before .before .before .args .range) (c .before .before .before .before .before .before .before .before .before .before .before .pre .1 .4)) (tests t (c .before .before .before .before .before)) (c .before .before .before .before .if1 .left) _ ((c .before .before .recall .ensures) (c .before .if2 .taken))
 
 narrow-from-variable-requires : (t : ℕ) → narrow-from-lts.Need-variable-requires (narrow-from-claims t) (narrow-from-at t) narrow-from.Post narrow-from-Inv-loop narrow-from-μ-loop
-narrow-from-variable-requires t c κs = (can-read (c .before .before .before .before .before .before .before .before .before .before .before .before .before .before .before .pre .1 .0), before-is-node (c .before .before .before .before .before .before .before .before .before .before .before .before .before .before .before .pre .1 .0) (c .before .before .before .before .before .before .before .before .before .before .before .before .before .before .before .pre .1 .1) (is-variable (c .before .before .before .before .before .before .before .before .before .before .before .before .before .before .before .pre .1 .2)) (narrow-changes (c .before .before .before .before .before .before .before .before .before .before .before .before .before .before .before .pre .1 .2) (c .before .before .before .before .before .before .before .before .before .before .before .before .before .before .before .args .range) (c .before .before .before .before .before .before .before .before .before .before .before .before .before .before .before .pre .1 .4)) (c .before .before .before .before .before .before .before .is-before .ensures) (c .before .before .before .before .before .before .if1 .left), c .before .before .before .before .before .before .before .before .before .before .before .before .before .before .before .pre .1 .1 .known)
+narrow-from-variable-requires t c κs = (node t (c .before .before .before .before), record-inside (can-read (c .before .before .before .before .before .before .before .before .before .before .before .pre .1 .0)) _ (c .before .before .before .before .before .before .before .before .before .before .before .pre .1 .1 .known))
 
 narrow-from-view-of-requires : (t : ℕ) → narrow-from-lts.Need-view-of-requires (narrow-from-claims t) (narrow-from-at t) narrow-from.Post narrow-from-Inv-loop narrow-from-μ-loop
-narrow-from-view-of-requires t c κs = (can-read (c .before .before .before .before .before .before .before .before .before .before .before .before .before .before .before .before .before .before .before .pre .1 .0), before-is-node (c .before .before .before .before .before .before .before .before .before .before .before .before .before .before .before .before .before .before .before .pre .1 .0) (c .before .before .before .before .before .before .before .before .before .before .before .before .before .before .before .before .before .before .before .pre .1 .1) (is-variable (c .before .before .before .before .before .before .before .before .before .before .before .before .before .before .before .before .before .before .before .pre .1 .2)) (narrow-changes (c .before .before .before .before .before .before .before .before .before .before .before .before .before .before .before .before .before .before .before .pre .1 .2) (c .before .before .before .before .before .before .before .before .before .before .before .before .before .before .before .before .before .before .before .args .range) (c .before .before .before .before .before .before .before .before .before .before .before .before .before .before .before .before .before .before .before .pre .1 .4)) (c .before .before .before .before .before .before .before .before .before .before .before .is-before .ensures) (c .before .before .before .before .before .before .before .before .before .before .if1 .left), c .before .before .before .before .before .before .before .before .before .before .before .before .before .before .before .before .before .before .before .pre .1 .1 .known)
+narrow-from-view-of-requires t c κs = (node t (c .before .before .before .before .before .before), record-inside (can-read (c .before .before .before .before .before .before .before .before .before .before .before .before .before .pre .1 .0)) _ (c .before .before .before .before .before .before .before .before .before .before .before .before .before .pre .1 .1 .known))
 
 -- What is known once the view is had.
-entered : (t : ℕ) (c : narrow-from-lts.After-view-of (narrow-from-claims t) (narrow-from-at t) narrow-from.Post narrow-from-Inv-loop narrow-from-μ-loop) → Entered (c .before .before .before .before .before .before .before .before .before .before .before .before .before .before .before .before .before .before .before .before .args .v) (narrowing (c .before .before .before .before .before .before .before .before .before .before .before .before .before .before .before .before .before .before .before .before .args .range)) (c .before .before .before .before .before .before .before .before .before .before .before .before .before .before .before .before .before .before .before .before .args .used) (store (c .before .before .before .before .before .before .before .before .before .before .before .before .before .before .before .before .before .before .before .before .args .nodes .now) (c .before .before .before .before .before .before .before .before .before .before .before .before .before .before .before .before .before .before .before .before .args .children .now) (c .before .before .before .before .before .before .before .before .before .before .before .before .before .before .before .before .before .before .before .before .args .cuts .now)) (c .before .before .before .before .before .before .before .before .before .before .before .before .before .before .before .before .before .before .before .before .args .index .now) (c .before .before .before .before .before .before .before .before .before .before .before .before .before .before .before .before .before .before .before .before .args .memo .now) (c .before .before .before .before .before .before .before .before .before .before .before .before .before .before .before .before .before .before .before .before .args .ahead) (c .before .before .before .before .before .before .before .before .before .before .before .before .before .before .before .before .before .before .before .before .args .id .0) (c .before .before .before .before .variable .result) (c .view-of .result)
-entered t c = record { known = (is-variable (c .before .before .before .before .before .before .before .before .before .before .before .before .before .before .before .before .before .before .before .before .pre .1 .2)); changes = (narrow-changes (c .before .before .before .before .before .before .before .before .before .before .before .before .before .before .before .before .before .before .before .before .pre .1 .2) (c .before .before .before .before .before .before .before .before .before .before .before .before .before .before .before .before .before .before .before .before .args .range) (c .before .before .before .before .before .before .before .before .before .before .before .before .before .before .before .before .before .before .before .before .pre .1 .4)); ready = (c .before .before .before .before .before .before .before .before .before .before .before .before .before .before .before .before .before .before .before .before .pre .1 .0); asked = (c .before .before .before .before .before .before .before .before .before .before .before .before .before .before .before .before .before .before .before .before .pre .1 .1); before = still-before (c .before .before .before .before .before .before .before .before .before .before .before .before .is-before .ensures) (c .before .before .before .before .before .before .before .before .before .before .before .if1 .left); variable = (c .before .before .before .before .variable .ensures .0); view = (c .view-of .ensures) }
+entered : (t : ℕ) (c : narrow-from-lts.After-view-of (narrow-from-claims t) (narrow-from-at t) narrow-from.Post narrow-from-Inv-loop narrow-from-μ-loop) → Entered (c .before .before .before .before .before .before .before .before .before .before .before .before .before .before .args .v) (narrowing (c .before .before .before .before .before .before .before .before .before .before .before .before .before .before .args .range)) (c .before .before .before .before .before .before .before .before .before .before .before .before .before .before .args .used) (store (c .before .before .before .before .before .before .before .before .before .before .before .before .before .before .args .nodes .now) (c .before .before .before .before .before .before .before .before .before .before .before .before .before .before .args .children .now) (c .before .before .before .before .before .before .before .before .before .before .before .before .before .before .args .cuts .now)) (c .before .before .before .before .before .before .before .before .before .before .before .before .before .before .args .index .now) (c .before .before .before .before .before .before .before .before .before .before .before .before .before .before .args .memo .now) (c .before .before .before .before .before .before .before .before .before .before .before .before .before .before .args .ahead) (c .before .before .before .before .before .before .before .before .before .before .before .before .before .before .args .id .0) (c .before .before .variable .result) (c .view-of .result)
+entered t c = record { known = (is-variable (c .before .before .before .before .before .before .before .before .before .before .before .before .before .before .pre .1 .2)); changes = (narrow-changes (c .before .before .before .before .before .before .before .before .before .before .before .before .before .before .pre .1 .2) (c .before .before .before .before .before .before .before .before .before .before .before .before .before .before .args .range) (c .before .before .before .before .before .before .before .before .before .before .before .before .before .before .pre .1 .4)); ready = (c .before .before .before .before .before .before .before .before .before .before .before .before .before .before .pre .1 .0); asked = (c .before .before .before .before .before .before .before .before .before .before .before .before .before .before .pre .1 .1); before = still-before (tests t (c .before .before .before .before .before .before .before .before)) (c .before .before .before .before .before .before .before .if1 .left); variable = variable-is (can-read (c .before .before .before .before .before .before .before .before .before .before .before .before .before .before .pre .1 .0)) _ (c .before .before .before .before .before .before .before .before .before .before .before .before .before .before .pre .1 .1 .known) (node t (c .before .before .before .before .before .before .before)) (c .before .before .variable .ensures); view = sees-views (can-read (c .before .before .before .before .before .before .before .before .before .before .before .before .before .before .pre .1 .0)) _ (c .before .before .before .before .before .before .before .before .before .before .before .before .before .before .pre .1 .1 .known) (variable-known (can-read (c .before .before .before .before .before .before .before .before .before .before .before .before .before .before .pre .1 .0)) _ (c .before .before .before .before .before .before .before .before .before .before .before .before .before .before .pre .1 .1 .known) (node t (c .before .before .before .before .before .before .before)) (c .before .before .variable .ensures)) (c .view-of .ensures) }
 
 narrow-from-loop-holds : (t : ℕ) → narrow-from-lts.Need-loop-holds (narrow-from-claims t) (narrow-from-at t) narrow-from.Post narrow-from-Inv-loop narrow-from-μ-loop
 narrow-from-loop-holds t c = starts (entered t (c .before)) (c .new .result) (c .new .ensures .0)
@@ -100,16 +113,16 @@ narrow-from-child-requires : (t : ℕ) → narrow-from-lts.Need-child-requires (
 narrow-from-child-requires t c κs = (in-children (entered t (c .before .before .before .before .before .before .before)) (c .before .before .before .before .before .loop .inv), in-view (entered t (c .before .before .before .before .before .before .before)) (c .before .before .before .before .before .loop .inv) (c .before .before .before .before .loop-test .taken) (c .before .before .before .turn .ensures))
 
 narrow-from-sub-narrow-from : (t : ℕ) → narrow-from-lts.Need-sub-narrow-from (narrow-from-claims t) (narrow-from-at t) narrow-from.Post narrow-from-Inv-loop narrow-from-μ-loop
-narrow-from-sub-narrow-from t c = call-left (c .before .before .before .before .before .before .before .before .before .before .before .before .before .before .before .before .before .before .before .before .before .before .before .before .before .before .before .before .before .before .before .before .before .pre .1 .0) (c .before .before .before .before .before .before .before .before .before .before .before .before .before .before .before .before .before .before .before .before .before .before .before .before .before .before .before .before .before .before .before .before .before .pre .1 .1)
+narrow-from-sub-narrow-from t c = call-left (can-read (c .before .before .before .before .before .before .before .before .before .before .before .before .before .before .before .before .before .before .before .before .before .before .before .before .before .before .before .pre .1 .0)) _ (c .before .before .before .before .before .before .before .before .before .before .before .before .before .before .before .before .before .before .before .before .before .before .before .before .before .before .before .pre .1 .1)
 
 narrow-from-narrow-from-requires : (t : ℕ) → narrow-from-lts.Need-narrow-from-requires (narrow-from-claims t) (narrow-from-at t) narrow-from.Post narrow-from-Inv-loop narrow-from-μ-loop
-narrow-from-narrow-from-requires t c κs = (omega (arith, c .before .before .before .before .before .before .before .before .before .before .before .before .before .before .before .before .before .before .before .before .before .before .before .before .before .before .before .before .before .before .before .before .before .pre .0, call-left (c .before .before .before .before .before .before .before .before .before .before .before .before .before .before .before .before .before .before .before .before .before .before .before .before .before .before .before .before .before .before .before .before .before .pre .1 .0) (c .before .before .before .before .before .before .before .before .before .before .before .before .before .before .before .before .before .before .before .before .before .before .before .before .before .before .before .before .before .before .before .before .before .pre .1 .1)), ((c .before .before .before .before .before .before .before .before .before .before .before .loop .inv .ready), below-asked (entered t (c .before .before .before .before .before .before .before .before .before .before .before .before .before)) (c .before .before .before .before .before .before .before .before .before .before .before .loop .inv) (c .before .before .before .before .before .before .before .before .before .before .loop-test .taken) (c .before .before .before .before .before .before .before .before .before .turn .ensures) (c .before .before .before .before .before .child .ensures), c .before .before .before .before .before .before .before .before .before .before .before .before .before .before .before .before .before .before .before .before .before .before .before .before .before .before .before .before .before .before .before .before .before .pre .1 .2, c .before .before .before .before .before .before .before .before .before .before .before .before .before .before .before .before .before .before .before .before .before .before .before .before .before .before .before .before .before .before .before .before .before .pre .1 .3, c .before .before .before .before .before .before .before .before .before .before .before .before .before .before .before .before .before .before .before .before .before .before .before .before .before .before .before .before .before .before .before .before .before .pre .1 .4))
+narrow-from-narrow-from-requires t c κs = (omega (arith, (c .before .before .before .before .before .before .before .before .before .before .before .before .before .before .before .before .before .before .before .before .before .before .before .before .before .before .before .pre .0), call-left (can-read (c .before .before .before .before .before .before .before .before .before .before .before .before .before .before .before .before .before .before .before .before .before .before .before .before .before .before .before .pre .1 .0)) _ (c .before .before .before .before .before .before .before .before .before .before .before .before .before .before .before .before .before .before .before .before .before .before .before .before .before .before .before .pre .1 .1)), ((c .before .before .before .before .before .before .before .before .before .before .before .loop .inv .ready), below-asked (entered t (c .before .before .before .before .before .before .before .before .before .before .before .before .before)) (c .before .before .before .before .before .before .before .before .before .before .before .loop .inv) (c .before .before .before .before .before .before .before .before .before .before .loop-test .taken) (c .before .before .before .before .before .before .before .before .before .turn .ensures) (c .before .before .before .before .before .child .ensures), (c .before .before .before .before .before .before .before .before .before .before .before .before .before .before .before .before .before .before .before .before .before .before .before .before .before .before .before .pre .1 .2), (c .before .before .before .before .before .before .before .before .before .before .before .before .before .before .before .before .before .before .before .before .before .before .before .before .before .before .before .pre .1 .3), (c .before .before .before .before .before .before .before .before .before .before .before .before .before .before .before .before .before .before .before .before .before .before .before .before .before .before .before .pre .1 .4)))
 
-narrow-from-mul-t73 : (t : ℕ) → narrow-from-lts.Need-mul-t73 (narrow-from-claims t) (narrow-from-at t) narrow-from.Post narrow-from-Inv-loop narrow-from-μ-loop
-narrow-from-mul-t73 t c = omega (arith, in-slots (entered t (c .before .before .before .before .before .before .before .before .before .before .before .before .before .before .before .before .before .before .before .before .before .before .before .before)) (c .before .before .before .before .before .before .before .before .before .before .before .before .before .before .before .before .before .before .before .before .before .before .loop .inv) (c .before .before .before .before .before .before .before .before .before .before .before .before .before .before .before .before .before .before .before .before .before .loop-test .taken) (c .before .before .before .before .before .before .before .before .before .before .before .before .before .before .before .before .before .before .before .before .turn .ensures))
+narrow-from-mul-t61 : (t : ℕ) → narrow-from-lts.Need-mul-t61 (narrow-from-claims t) (narrow-from-at t) narrow-from.Post narrow-from-Inv-loop narrow-from-μ-loop
+narrow-from-mul-t61 t c = omega (arith, in-slots (entered t (c .before .before .before .before .before .before .before .before .before .before .before .before .before .before .before .before .before .before .before .before .before .before .before .before)) (c .before .before .before .before .before .before .before .before .before .before .before .before .before .before .before .before .before .before .before .before .before .before .loop .inv) (c .before .before .before .before .before .before .before .before .before .before .before .before .before .before .before .before .before .before .before .before .before .loop-test .taken) (c .before .before .before .before .before .before .before .before .before .before .before .before .before .before .before .before .before .before .before .before .turn .ensures))
 
 narrow-from-element-set-from-out : (t : ℕ) → narrow-from-lts.Need-element-set-from-out (narrow-from-claims t) (narrow-from-at t) narrow-from.Post narrow-from-Inv-loop narrow-from-μ-loop
-narrow-from-element-set-from-out t c = omega (arith, in-slots (entered t (c .before .before .before .before .before .before .before .before .before .before .before .before .before .before .before .before .before .before .before .before .before .before .before .before)) (c .before .before .before .before .before .before .before .before .before .before .before .before .before .before .before .before .before .before .before .before .before .before .loop .inv) (c .before .before .before .before .before .before .before .before .before .before .before .before .before .before .before .before .before .before .before .before .before .loop-test .taken) (c .before .before .before .before .before .before .before .before .before .before .before .before .before .before .before .before .before .before .before .before .turn .ensures), c .before .before .before .before .before .before .before .before .before .before .before .before .before .before .before .before .before .before .before .before .before .before .loop .inv .size)
+narrow-from-element-set-from-out t c = omega (arith, in-slots (entered t (c .before .before .before .before .before .before .before .before .before .before .before .before .before .before .before .before .before .before .before .before .before .before .before .before)) (c .before .before .before .before .before .before .before .before .before .before .before .before .before .before .before .before .before .before .before .before .before .before .loop .inv) (c .before .before .before .before .before .before .before .before .before .before .before .before .before .before .before .before .before .before .before .before .before .loop-test .taken) (c .before .before .before .before .before .before .before .before .before .before .before .before .before .before .before .before .before .before .before .before .turn .ensures), (c .before .before .before .before .before .before .before .before .before .before .before .before .before .before .before .before .before .before .before .before .before .before .loop .inv .size))
 
 narrow-from-left-after-requires : (t : ℕ) → narrow-from-lts.Need-left-after-requires (narrow-from-claims t) (narrow-from-at t) narrow-from.Post narrow-from-Inv-loop narrow-from-μ-loop
 narrow-from-left-after-requires t c κs = omega (arith, (c .before .before .before .before .before .before .before .before .before .before .before .before .before .before .before .before .before .before .before .before .before .before .loop-test .taken))
@@ -121,28 +134,29 @@ narrow-from-loop-again : (t : ℕ) → narrow-from-lts.Need-loop-again (narrow-f
 narrow-from-loop-again t c = steps (entered t (c .before .before .before .before .before .before .before .before .before .before .before .before .before .before .before .before .before .before .before .before .before .before .before .before .before .before)) (c .before .before .before .before .before .before .before .before .before .before .before .before .before .before .before .before .before .before .before .before .before .before .before .before .loop .inv) (c .before .before .before .before .before .before .before .before .before .before .before .before .before .before .before .before .before .before .before .before .before .before .before .loop-test .taken) (c .before .before .before .before .before .before .before .before .before .before .before .before .before .before .before .before .before .before .before .before .before .before .turn .ensures) (c .before .before .before .before .before .before .before .before .before .before .before .before .before .before .before .before .before .before .child .ensures) (c .before .before .before .before .before .before .before .before .before .before .before .before .before .before .before .before .before .before .before .before .cut-of .ensures) (c .before .before .before .before .before .before .before .before .before .before .before .before .narrow-from .ensures) (c .left-after .ensures)
 
 narrow-from-node-over-requires : (t : ℕ) → narrow-from-lts.Need-node-over-requires (narrow-from-claims t) (narrow-from-at t) narrow-from.Post narrow-from-Inv-loop narrow-from-μ-loop
-narrow-from-node-over-requires t c κs = ((c .before .before .before .before .before .before .loop .inv .ready .lent), c .before .before .before .before .before .before .loop .inv .ready .long, merges (entered t (c .before .before .before .before .before .before .before .before)) (c .before .before .before .before .before .before .loop .inv) (omega (arith, c .before .before .before .before .before .loop-test .left)))
+narrow-from-node-over-requires t c κs = ((c .before .before .before .before .before .before .loop .inv .ready .lent), (c .before .before .before .before .before .before .loop .inv .ready .long), merges (entered t (c .before .before .before .before .before .before .before .before)) (c .before .before .before .before .before .before .loop .inv) (omega (arith, (c .before .before .before .before .before .loop-test .left))))
+
+narrow-from-same-length-7 : (t : ℕ) → narrow-from-lts.Need-same-length-7 (narrow-from-claims t) (narrow-from-at t) narrow-from.Post narrow-from-Inv-loop narrow-from-μ-loop
+narrow-from-same-length-7 t c = (arrives (entered t (c .before .before .before .before .before .before .before .before .before .before .before .before .before .before .before .before .before .before)) (c .before .before .before .before .before .before .before .before .before .before .before .before .before .before .before .before .loop .inv) (omega (arith, (c .before .before .before .before .before .before .before .before .before .before .before .before .before .before .before .loop-test .left))) (c .before .before .before .before .before .before .before .before .before .node-over .ensures)) .outcome .stays .long
+
+narrow-from-same-length-8 : (t : ℕ) → narrow-from-lts.Need-same-length-8 (narrow-from-claims t) (narrow-from-at t) narrow-from.Post narrow-from-Inv-loop narrow-from-μ-loop
+narrow-from-same-length-8 t c = (arrives (entered t (c .before .before .before .before .before .before .before .before .before .before .before .before .before .before .before .before .before .before)) (c .before .before .before .before .before .before .before .before .before .before .before .before .before .before .before .before .loop .inv) (omega (arith, (c .before .before .before .before .before .before .before .before .before .before .before .before .before .before .before .loop-test .left))) (c .before .before .before .before .before .before .before .before .before .node-over .ensures)) .outcome .stays .wide
 
 narrow-from-same-length-9 : (t : ℕ) → narrow-from-lts.Need-same-length-9 (narrow-from-claims t) (narrow-from-at t) narrow-from.Post narrow-from-Inv-loop narrow-from-μ-loop
-narrow-from-same-length-9 t c = (arrives (entered t (c .before .before .before .before .before .before .before .before .before .before .before .before .before .before .before .before .before .before)) (c .before .before .before .before .before .before .before .before .before .before .before .before .before .before .before .before .loop .inv) (omega (arith, c .before .before .before .before .before .before .before .before .before .before .before .before .before .before .before .loop-test .left)) (c .before .before .before .before .before .before .before .before .before .node-over .ensures)) .outcome .stays .long
+narrow-from-same-length-9 t c = cuts-long (c .before .before .before .before .before .before .before .before .before .before .before .before .before .before .before .before .before .before .before .before .before .before .before .before .before .before .before .before .before .before .before .before .pre .1 .0) (arrives (entered t (c .before .before .before .before .before .before .before .before .before .before .before .before .before .before .before .before .before .before)) (c .before .before .before .before .before .before .before .before .before .before .before .before .before .before .before .before .loop .inv) (omega (arith, (c .before .before .before .before .before .before .before .before .before .before .before .before .before .before .before .loop-test .left))) (c .before .before .before .before .before .before .before .before .before .node-over .ensures))
 
 narrow-from-same-length-10 : (t : ℕ) → narrow-from-lts.Need-same-length-10 (narrow-from-claims t) (narrow-from-at t) narrow-from.Post narrow-from-Inv-loop narrow-from-μ-loop
-narrow-from-same-length-10 t c = (arrives (entered t (c .before .before .before .before .before .before .before .before .before .before .before .before .before .before .before .before .before .before)) (c .before .before .before .before .before .before .before .before .before .before .before .before .before .before .before .before .loop .inv) (omega (arith, c .before .before .before .before .before .before .before .before .before .before .before .before .before .before .before .loop-test .left)) (c .before .before .before .before .before .before .before .before .before .node-over .ensures)) .outcome .stays .wide
+narrow-from-same-length-10 t c = index-long (c .before .before .before .before .before .before .before .before .before .before .before .before .before .before .before .before .before .before .before .before .before .before .before .before .before .before .before .before .before .before .before .before .pre .1 .0) (arrives (entered t (c .before .before .before .before .before .before .before .before .before .before .before .before .before .before .before .before .before .before)) (c .before .before .before .before .before .before .before .before .before .before .before .before .before .before .before .before .loop .inv) (omega (arith, (c .before .before .before .before .before .before .before .before .before .before .before .before .before .before .before .loop-test .left))) (c .before .before .before .before .before .before .before .before .before .node-over .ensures))
 
 narrow-from-same-length-11 : (t : ℕ) → narrow-from-lts.Need-same-length-11 (narrow-from-claims t) (narrow-from-at t) narrow-from.Post narrow-from-Inv-loop narrow-from-μ-loop
-narrow-from-same-length-11 t c = cuts-long (c .before .before .before .before .before .before .before .before .before .before .before .before .before .before .before .before .before .before .before .before .before .before .before .before .before .before .before .before .before .before .before .before .before .before .before .before .before .before .pre .1 .0) (arrives (entered t (c .before .before .before .before .before .before .before .before .before .before .before .before .before .before .before .before .before .before)) (c .before .before .before .before .before .before .before .before .before .before .before .before .before .before .before .before .loop .inv) (omega (arith, c .before .before .before .before .before .before .before .before .before .before .before .before .before .before .before .loop-test .left)) (c .before .before .before .before .before .before .before .before .before .node-over .ensures))
-
-narrow-from-same-length-12 : (t : ℕ) → narrow-from-lts.Need-same-length-12 (narrow-from-claims t) (narrow-from-at t) narrow-from.Post narrow-from-Inv-loop narrow-from-μ-loop
-narrow-from-same-length-12 t c = index-long (c .before .before .before .before .before .before .before .before .before .before .before .before .before .before .before .before .before .before .before .before .before .before .before .before .before .before .before .before .before .before .before .before .before .before .before .before .before .before .pre .1 .0) (arrives (entered t (c .before .before .before .before .before .before .before .before .before .before .before .before .before .before .before .before .before .before)) (c .before .before .before .before .before .before .before .before .before .before .before .before .before .before .before .before .loop .inv) (omega (arith, c .before .before .before .before .before .before .before .before .before .before .before .before .before .before .before .loop-test .left)) (c .before .before .before .before .before .before .before .before .before .node-over .ensures))
-
-narrow-from-same-length-13 : (t : ℕ) → narrow-from-lts.Need-same-length-13 (narrow-from-claims t) (narrow-from-at t) narrow-from.Post narrow-from-Inv-loop narrow-from-μ-loop
-narrow-from-same-length-13 t c = (arrives (entered t (c .before .before .before .before .before .before .before .before .before .before .before .before .before .before .before .before .before .before)) (c .before .before .before .before .before .before .before .before .before .before .before .before .before .before .before .before .loop .inv) (omega (arith, c .before .before .before .before .before .before .before .before .before .before .before .before .before .before .before .loop-test .left)) (c .before .before .before .before .before .before .before .before .before .node-over .ensures)) .long
+narrow-from-same-length-11 t c = (arrives (entered t (c .before .before .before .before .before .before .before .before .before .before .before .before .before .before .before .before .before .before)) (c .before .before .before .before .before .before .before .before .before .before .before .before .before .before .before .before .loop .inv) (omega (arith, (c .before .before .before .before .before .before .before .before .before .before .before .before .before .before .before .loop-test .left))) (c .before .before .before .before .before .before .before .before .before .node-over .ensures)) .long
 
 narrow-from-returns-3 : (t : ℕ) → narrow-from-lts.Need-returns-3 (narrow-from-claims t) (narrow-from-at t) narrow-from.Post narrow-from-Inv-loop narrow-from-μ-loop
-narrow-from-returns-3 t c = arrives (entered t (c .before .before .before .before .before .before .before .before .before .before .before .before .before .before .before .before .before .before)) (c .before .before .before .before .before .before .before .before .before .before .before .before .before .before .before .before .loop .inv) (omega (arith, c .before .before .before .before .before .before .before .before .before .before .before .before .before .before .before .loop-test .left)) (c .before .before .before .before .before .before .before .before .before .node-over .ensures)
+narrow-from-returns-3 t c = arrives (entered t (c .before .before .before .before .before .before .before .before .before .before .before .before .before .before .before .before .before .before)) (c .before .before .before .before .before .before .before .before .before .before .before .before .before .before .before .before .loop .inv) (omega (arith, (c .before .before .before .before .before .before .before .before .before .before .before .before .before .before .before .loop-test .left))) (c .before .before .before .before .before .before .before .before .before .node-over .ensures)
 
 pub +narrow-from-spec : {M : Type 1} → statement M
-+narrow-from-spec = close μ-narrow-from λ t. narrow-from-lts.spec (narrow-from-claims t)
++narrow-from-spec = close μ-narrow-from λ t. narrow-from-lts.spec
+    (narrow-from-claims t)
     (narrow-from-at t)
     narrow-from.Post
     narrow-from-Inv-loop
@@ -157,8 +171,6 @@ pub +narrow-from-spec : {M : Type 1} → statement M
     (narrow-from-recall-requires t)
     (λ c. search needs)
     (λ c. search needs)
-    (λ c. search needs)
-    (λ c. search needs)
     (narrow-from-returns-2 t)
     (narrow-from-variable-requires t)
     (narrow-from-view-of-requires t)
@@ -169,15 +181,15 @@ pub +narrow-from-spec : {M : Type 1} → statement M
     (narrow-from-child-requires t)
     (narrow-from-sub-narrow-from t)
     (narrow-from-narrow-from-requires t)
-    (narrow-from-mul-t73 t)
+    (narrow-from-mul-t61 t)
     (narrow-from-element-set-from-out t)
     (narrow-from-left-after-requires t)
     (narrow-from-loop-less t)
     (narrow-from-loop-again t)
     (narrow-from-node-over-requires t)
+    (narrow-from-same-length-7 t)
+    (narrow-from-same-length-8 t)
     (narrow-from-same-length-9 t)
     (narrow-from-same-length-10 t)
     (narrow-from-same-length-11 t)
-    (narrow-from-same-length-12 t)
-    (narrow-from-same-length-13 t)
     (narrow-from-returns-3 t)
