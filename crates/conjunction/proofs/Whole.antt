@@ -9,12 +9,12 @@ use Rattle.diagram.specs.Table.{Table}
 use Rattle.algebra.specs.Conjunction.{and, or}
 use Rattle.making.specs.declared.nodes.Used.{Used}
 use Rattle.making.specs.declared.nodes.Made.{Made}
-use Rattle.conjunction.specs.Joining.{Joins}
+use Rattle.conjunction.specs.Joining.{Conjoins}
 use Rattle.table.specs.Layout.{Store}
 
 pub or-joined : {h : Used} (t : Table) (x y : ℕ) {m : Made} {st : Store} {index memo : List ℕ} {st′ : Store} {index′ memo′ : List ℕ} (i j : ℕ) → i ≡ flip x → j ≡ flip y
-    → Joins h (and t i j) m st index memo st′ index′ memo′ → (id : NodeId) → id .0 ≡ flip (m .id .0)
-    → Joins h (or t x y) (record { ok = m .ok; id = id; used = m .used }) st index memo st′ index′ memo′
+    → Conjoins h (and t i j) m st index memo st′ index′ memo′ → (id : NodeId) → id .0 ≡ flip (m .id .0)
+    → Conjoins h (or t x y) (record { ok = m .ok; id = id; used = m .used }) st index memo st′ index′ memo′
 unfolding or
 or-joined t x y i j p q c id e =
     let o = c .worked .creates .outcome in

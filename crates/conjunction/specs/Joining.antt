@@ -25,6 +25,6 @@ abbrev pub pairs : ℕ → Table → ℕ × ℕ → Table × ℕ
 pairs n t p = conj n t (p .0) (p .1)
 
 -- What conjunction and disjunction leave; beside an answer the memo is true of the table, for an operation that may follow.
-pub record Joins (h : Used) (want : Table × ℕ) (r : Made) (st : Store) (index memo : List ℕ) (st′ : Store) (index′ memo′ : List ℕ) : Type 0 where
+pub record Conjoins (h : Used) (want : Table × ℕ) (r : Made) (st : Store) (index memo : List ℕ) (st′ : Store) (index′ memo′ : List ℕ) : Type 0 where
   pub worked : Worked h want r st index memo st′ index′ memo′
   pub recalled : r .ok ≡ true → Memo (Entry (tableOf (r .used) st′)) memo′

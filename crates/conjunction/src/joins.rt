@@ -5,7 +5,7 @@ ghost use Rattle.algebra.specs.Conjunction.{and as conjunction, or as disjuncti
 ghost use Rattle.table.specs.Layout.{store};
 ghost use Rattle.making.specs.Outcome.{tableOf};
 ghost use Rattle.walks.specs.Walking.{Ready};
-ghost use Rattle.conjunction.specs.Joining.{Entry, Joins};
+ghost use Rattle.conjunction.specs.Joining.{Entry, Conjoins};
 use super::pairs::conjoin;
 use ids::NodeId;
 use making::nodes::Made;
@@ -25,7 +25,7 @@ pub fn and(
     y: NodeId,
 ) -> Made
     requires { ⌜ (Ready Entry used (store (now nodes) (now children) (now cuts)) (now index) (now memo)) × (KnownTo (used .nodes) (x .0)) × (KnownTo (used .nodes) (y .0)) ⌝ }
-    ensures { λ r. ⌜ Joins used (conjunction (tableOf used (store (now (nodes .entry)) (now (children .entry)) (now (cuts .entry)))) (x .0) (y .0)) r (store (now (nodes .entry)) (now (children .entry)) (now (cuts .entry))) (now (index .entry)) (now (memo .entry)) (store (now (nodes .exit)) (now (children .exit)) (now (cuts .exit))) (now (index .exit)) (now (memo .exit)) ⌝ }
+    ensures { λ r. ⌜ Conjoins used (conjunction (tableOf used (store (now (nodes .entry)) (now (children .entry)) (now (cuts .entry)))) (x .0) (y .0)) r (store (now (nodes .entry)) (now (children .entry)) (now (cuts .entry))) (now (index .entry)) (now (memo .entry)) (store (now (nodes .exit)) (now (children .exit)) (now (cuts .exit))) (now (index .exit)) (now (memo .exit)) ⌝ }
 {
     let m = conjoin(
         nodes,
@@ -53,7 +53,7 @@ pub fn or(
     y: NodeId,
 ) -> Made
     requires { ⌜ (Ready Entry used (store (now nodes) (now children) (now cuts)) (now index) (now memo)) × (KnownTo (used .nodes) (x .0)) × (KnownTo (used .nodes) (y .0)) ⌝ }
-    ensures { λ r. ⌜ Joins used (disjunction (tableOf used (store (now (nodes .entry)) (now (children .entry)) (now (cuts .entry)))) (x .0) (y .0)) r (store (now (nodes .entry)) (now (children .entry)) (now (cuts .entry))) (now (index .entry)) (now (memo .entry)) (store (now (nodes .exit)) (now (children .exit)) (now (cuts .exit))) (now (index .exit)) (now (memo .exit)) ⌝ }
+    ensures { λ r. ⌜ Conjoins used (disjunction (tableOf used (store (now (nodes .entry)) (now (children .entry)) (now (cuts .entry)))) (x .0) (y .0)) r (store (now (nodes .entry)) (now (children .entry)) (now (cuts .entry))) (now (index .entry)) (now (memo .entry)) (store (now (nodes .exit)) (now (children .exit)) (now (cuts .exit))) (now (index .exit)) (now (memo .exit)) ⌝ }
 {
     let m = and(nodes, children, cuts, index, memo, used, x.not(), y.not());
     let id = m.id;

@@ -18,7 +18,7 @@ use Rattle.table.specs.Told.{done, Checks, checked-1, checked-2, checked-0}
 use Rattle.table.proofs.Laws.{proved, refuted}
 use Rattle.making.specs.declared.nodes.Used.{Used}
 use Rattle.making.specs.declared.nodes.Made.{Made}
-use Rattle.making.specs.Outcome.{Lent, Outcome, Untouched, tableOf}
+use Rattle.making.specs.Outcome.{Lent, Creates, tableOf}
 use Rattle.kernel.specs.Makes.{wrongVariable, noRoom, made-4, Conditions}
 use Rattle.kernel.specs.Admitting.{Admits, not-lent, not-kind, admitted}
 use Rattle.kernel.proofs.Handing.{check-refuses, outcome-told}
@@ -26,15 +26,15 @@ use Rattle.table.specs.Layout.{Store}
 
 module _ {st : Store} {index : List ℕ} where
   -- the check of a table gives one to work on
-  pub check-lends : {k u e : ℕ} → Checks st index k u e → k ≡ done → Lent (record { used = u; edges = e }) st index
+  pub check-lends : {k u e : ℕ} → Checks st index k u e → k ≡ done → Lent (record { nodes = u; edges = e }) st index
   check-lends (checked-1 f) q = absurd (omega arith)
   check-lends (checked-2 a f) q = absurd (omega arith)
   check-lends (checked-0 a u s) q = record { allowed = a; sound = s; edges = refl }
 
-  pub admits-not : {kind : Bool} {k u e : ℕ} → Checks st index k u e → k ≡ done → kind ≡ false → Admits st index kind wrongVariable (record { used = u; edges = e })
+  pub admits-not : {kind : Bool} {k u e : ℕ} → Checks st index k u e → k ≡ done → kind ≡ false → Admits st index kind wrongVariable (record { nodes = u; edges = e })
   admits-not c q e = rw e (not-kind _ (check-lends c q))
 
-  pub admits-it : {kind : Bool} {k u e : ℕ} → Checks st index k u e → k ≡ done → kind ≡ true → Admits st index kind done (record { used = u; edges = e })
+  pub admits-it : {kind : Bool} {k u e : ℕ} → Checks st index k u e → k ≡ done → kind ≡ true → Admits st index kind done (record { nodes = u; edges = e })
   admits-it c q e = rw e (admitted _ (check-lends c q))
 
   -- what a condition may work on
@@ -54,10 +54,9 @@ module _ (kind : Type 0) (want : Table → Table × ℕ) (st : Store) (index : L
   -- rows 6 and 0, from what was made
   module _ {st′ : Store} {index′ : List ℕ} where
     pub condition-answered : {h : Used} {made : Table × ℕ} {r : Made} {n id : ℕ} → Lent h st index × kind
-        → Outcome h made r st st′ index′ × (r .ok ≡ false → Untouched st index st′ index′)
-        → made ≡ want (tableOf h st) → (n ≡ cond (r .ok) done noRoom) × (id ≡ cond (r .ok) (r .id .0) FALSE)
+        → Creates h made r st index st′ index′ → made ≡ want (tableOf h st) → (n ≡ cond (r .ok) done noRoom) × (id ≡ cond (r .ok) (r .id .0) FALSE)
         → Conditions st index kind want n id st′ index′
-    condition-answered (l, p) (o, u) e q = outcome-told _ _ kind want st index [] (l .allowed) l tt p o u refl e q
+    condition-answered (l, p) o e q = outcome-told _ _ kind want st index [] (l .allowed) l tt p o refl e q
 
 -- The code hands a variable on as a wide number, and a key as 32 bits.
 pub same-range : (t : Table) {w v : ℕ} (lower upper : Bound) → w ≡ v → from-range t w lower upper ≡ from-range t v lower upper

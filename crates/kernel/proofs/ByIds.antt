@@ -1,11 +1,11 @@
 -- What the proofs of the calls that are given ids and are lent a memo hand their facts to: what is found before any work, and each row.
 -- Assumes nothing.
-use mathlib.Core.Path.{_≡_, refl, ap}
+use mathlib.Core.Path.{_≡_, refl, sym, _∙_, ap}
 use mathlib.Core.Bool.{Bool, true, false, cond}
 use mathlib.Core.List.{List}
 use Prim.Native.Nat.{ℕ, _*_}
 use native.Mathlib.Omega.{arith}
-use lib.ListN.{length}
+use lib.ListN.{length, replicate, length-replicate}
 use lib.IntN.{ℤ}
 use Rattle.ids.specs.Id.{FALSE}
 use Rattle.ranges.specs.declared.bounds.Bound.{Bound}
@@ -18,6 +18,7 @@ use Rattle.table.proofs.Laws.{proved, refuted}
 use Rattle.making.specs.declared.nodes.Used.{Used}
 use Rattle.making.specs.declared.nodes.Made.{Made}
 use Rattle.making.specs.Outcome.{Lent, tableOf}
+use Rattle.walks.specs.Recalling.{Cleared}
 use Rattle.walks.specs.Walking.{Worked}
 use Rattle.kernel.specs.Makes.{wrongVariable, noRoom, made-1, made-3, made-4, BothKnown, WithMemo}
 use Rattle.kernel.specs.Admitting.{Admits, not-lent, admitted, AdmitsIds, ids-not-long, ids-not-lent, ids-not-known, ids-not-kind, ids-admitted}
@@ -45,6 +46,13 @@ ids-lent d (ids-not-known b h e l f) g = absurd (omega arith)
 ids-lent d (ids-not-kind h e l a) g = absurd (omega arith)
 ids-lent d (ids-admitted h e l a) g = (l, e, a, proved d refl)
 
+-- a memo that was cleared is as long as it was, and every word of it is zero
+pub cleared-long : {zeros : List ℕ} (memo : List ℕ) → zeros ≡ replicate (length memo) 0 → length zeros ≡ length memo
+cleared-long memo z = ap length z ∙ length-replicate (length memo) 0
+
+pub cleared : {zeros : List ℕ} (memo : List ℕ) → zeros ≡ replicate (length memo) 0 → Cleared zeros
+cleared memo z = z ∙ ap (λ (i : ℕ). replicate i 0) (sym (cleared-long memo z))
+
 -- A call says in its own words that its ids are known.
 module _ (known : ℕ → Type 0) (kind : Type 0) (want : Table → Table × ℕ) (st : Store) (index memo : List ℕ) (x y : ℕ)
     (to : (u : ℕ) → BothKnown x y u → known u) (back : (u : ℕ) → known u → BothKnown x y u) where
@@ -56,13 +64,13 @@ module _ (known : ℕ → Type 0) (kind : Type 0) (want : Table → Table × ℕ
   ids-refused d (ids-not-kind h e l a) g q = rw (q .0, q .1) (made-4 (l .allowed, e) (h .nodes) (l .sound) (to (h .nodes) a) (refuted d refl))
   ids-refused d (ids-admitted h e l a) g q = absurd (g refl)
 
-  -- rows 6 and 0, from what the operation leaves
-  pub ids-answered : {b : Bool} {k n id : ℕ} {h : Used} {made : Table × ℕ} {r : Made} {st′ : Store} {index′ memo′ : List ℕ} → Decides kind b
-      → AdmitsIds st index (length memo) x y b k h → k ≡ done → Worked h made r st index memo st′ index′ memo′ → made ≡ want (tableOf h st)
-      → (n ≡ cond (r .ok) done noRoom) × (id ≡ cond (r .ok) (r .id .0) FALSE) → WithMemo st index memo known kind want n id st′ index′ memo′
-  ids-answered {h = h} d a g w e q =
+  -- rows 6 and 0, from what the operation leaves: its memo was cleared before it, and is cleared after it
+  pub ids-answered : {b : Bool} {k n id : ℕ} {h : Used} {made : Table × ℕ} {r : Made} {st′ : Store} {index′ zeros memo₁ memo′ : List ℕ} → Decides kind b
+      → AdmitsIds st index (length memo) x y b k h → k ≡ done → zeros ≡ replicate (length memo) 0 → Worked h made r st index zeros st′ index′ memo₁ → memo′ ≡ replicate (length memo₁) 0
+      → made ≡ want (tableOf h st) → (n ≡ cond (r .ok) done noRoom) × (id ≡ cond (r .ok) (r .id .0) FALSE) → WithMemo st index memo known kind want n id st′ index′ memo′
+  ids-answered {h = h} d a g z w f e q =
       let l = ids-lent d a g in
-      outcome-told _ known kind want st index memo (l .0 .allowed, l .1) (l .0) (to (h .nodes) (l .2)) (l .3) (w .outcome) (w .untouched) (w .zeroed) e q
+      outcome-told _ known kind want st index memo (l .0 .allowed, l .1) (l .0) (to (h .nodes) (l .2)) (l .3) (w .creates) (f ∙ ap (λ (i : ℕ). replicate i 0) (w .long ∙ cleared-long memo z)) e q
 
 -- The code hands a variable on as a wide number.
 pub same-restrict : (t : Table) {w v : ℕ} (value : Bool) (id : ℕ) → w ≡ v → restrict t w value id ≡ restrict t v value id

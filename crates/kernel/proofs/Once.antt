@@ -23,7 +23,7 @@ leaves-fits {st′ = st′} {index′} l =
 
 module _ (lent : Type 0) (known : ℕ → Type 0) (kind : Type 0) (want : Table → Table × ℕ) (st : Store) (index memo : List ℕ) where
   abbrev Out : ℕ → ℕ → Store → List ℕ → List ℕ → Type 0
-  Out k id n c t i m = Makes lent known kind want st index memo k id n c t i m
+  Out k id st′ index′ m = Makes lent known kind want st index memo k id st′ index′ m
 
   one : {u u′ : ℕ} → SoundLent st index u → SoundLent st index u′ → u ≡ u′
   one {u} {u′} s s′ = sound-once st index u u′ s s′
@@ -36,51 +36,49 @@ module _ (lent : Type 0) (known : ℕ → Type 0) (kind : Type 0) (want : Table 
   Room u = Fits (room (st .nodes)) (length (st .children)) ((wanted u) .0)
 
   -- both are done
-  same-done : {u u′ : ℕ} {n n′ c c′ i i′ : List ℕ} {t t′ : List ℤ} → u ≡ u′ → Leaves ((wanted u) .0) st index n c t i → Leaves ((wanted u′) .0) st index n′ c′ t′ i′
-      → (n ≡ n′) × (c ≡ c′) × (t ≡ t′) × (i ≡ i′)
-  same-done {n = n} {n′} {c} {c′} {i} {i′} {t} {t′} e h h′ =
-      let w = same-table-same-words n c t i n′ c′ t′ i′ (h .nodes) (h′ .nodes) (h .long ∙ sym (h′ .long)) (h .wide ∙ sym (h′ .wide)) (h .deep ∙ sym (h′ .deep)) (h .indexed ∙ sym (h′ .indexed))
-      (h .sound) (h′ .sound) (h .holds ∙ ap (λ (m : ℕ). (wanted m) .0) e ∙ sym (h′ .holds)) in
-      (w .each-node, w .each-kid, w .each-cut, w .each-word)
+  same-done : {u u′ : ℕ} {st′ st″ : Store} {index′ index″ : List ℕ} → u ≡ u′ → Leaves ((wanted u) .0) st index st′ index′ → Leaves ((wanted u′) .0) st index st″ index″ → (st′ ≡ st″) × (index′ ≡ index″)
+  same-done {st′ = st′} {st″} {index′} {index″} e h h′ =
+      same-table-same-words st′ index′ st″ index″ (h .used) (h′ .used) (h .long ∙ sym (h′ .long)) (h .wide ∙ sym (h′ .wide)) (h .deep ∙ sym (h′ .deep)) (h .indexed ∙ sym (h′ .indexed))
+      (h .sound) (h′ .sound) (h .holds ∙ ap (λ (m : ℕ). (wanted m) .0) e ∙ sym (h′ .holds))
 
-  pub makes-once : {k k′ id id′ : ℕ} {n n′ c c′ i i′ m m′ : List ℕ} {t t′ : List ℤ} → Out k id n c t i m → Out k′ id′ n′ c′ t′ i′ m′
-      → (k ≡ k′) × (id ≡ id′) × (n ≡ n′) × (c ≡ c′) × (t ≡ t′) × (i ≡ i′) × (m ≡ m′)
-  makes-once (made-1 f) (made-1 f′) = (refl, refl, refl, refl, refl, refl, refl)
+  pub makes-once : {k k′ id id′ : ℕ} {st′ st″ : Store} {index′ index″ m m′ : List ℕ} → Out k id st′ index′ m → Out k′ id′ st″ index″ m′
+      → (k ≡ k′) × (id ≡ id′) × (st′ ≡ st″) × (index′ ≡ index″) × (m ≡ m′)
+  makes-once (made-1 f) (made-1 f′) = (refl, refl, refl, refl, refl)
   makes-once (made-1 f) (made-2 l′ f′) = absurd (f l′)
   makes-once (made-1 f) (made-3 l′ u′ s′ f′) = absurd (f l′)
   makes-once (made-1 f) (made-4 l′ u′ s′ k′ f′) = absurd (f l′)
   makes-once (made-1 f) (made-6 l′ u′ s′ k′ v′ f′) = absurd (f l′)
-  makes-once (made-1 f) (made-0 l′ u′ s′ k′ v′ _ _ _ _ h′) = absurd (f l′)
+  makes-once (made-1 f) (made-0 l′ u′ s′ k′ v′ _ _ h′) = absurd (f l′)
   makes-once (made-2 l f) (made-1 f′) = absurd (f′ l)
-  makes-once (made-2 l f) (made-2 l′ f′) = (refl, refl, refl, refl, refl, refl, refl)
+  makes-once (made-2 l f) (made-2 l′ f′) = (refl, refl, refl, refl, refl)
   makes-once (made-2 l f) (made-3 l′ u′ s′ f′) = absurd (f u′ s′)
   makes-once (made-2 l f) (made-4 l′ u′ s′ k′ f′) = absurd (f u′ s′)
   makes-once (made-2 l f) (made-6 l′ u′ s′ k′ v′ f′) = absurd (f u′ s′)
-  makes-once (made-2 l f) (made-0 l′ u′ s′ k′ v′ _ _ _ _ h′) = absurd (f u′ s′)
+  makes-once (made-2 l f) (made-0 l′ u′ s′ k′ v′ _ _ h′) = absurd (f u′ s′)
   makes-once (made-3 l u s f) (made-1 f′) = absurd (f′ l)
   makes-once (made-3 l u s f) (made-2 l′ f′) = absurd (f′ u s)
-  makes-once (made-3 l u s f) (made-3 l′ u′ s′ f′) = (refl, refl, refl, refl, refl, refl, refl)
+  makes-once (made-3 l u s f) (made-3 l′ u′ s′ f′) = (refl, refl, refl, refl, refl)
   makes-once (made-3 l u s f) (made-4 l′ u′ s′ k′ f′) = absurd (f (subst known (one s′ s) k′))
   makes-once (made-3 l u s f) (made-6 l′ u′ s′ k′ v′ f′) = absurd (f (subst known (one s′ s) k′))
-  makes-once (made-3 l u s f) (made-0 l′ u′ s′ k′ v′ _ _ _ _ h′) = absurd (f (subst known (one s′ s) k′))
+  makes-once (made-3 l u s f) (made-0 l′ u′ s′ k′ v′ _ _ h′) = absurd (f (subst known (one s′ s) k′))
   makes-once (made-4 l u s k f) (made-1 f′) = absurd (f′ l)
   makes-once (made-4 l u s k f) (made-2 l′ f′) = absurd (f′ u s)
   makes-once (made-4 l u s k f) (made-3 l′ u′ s′ f′) = absurd (f′ (subst known (one s s′) k))
-  makes-once (made-4 l u s k f) (made-4 l′ u′ s′ k′ f′) = (refl, refl, refl, refl, refl, refl, refl)
+  makes-once (made-4 l u s k f) (made-4 l′ u′ s′ k′ f′) = (refl, refl, refl, refl, refl)
   makes-once (made-4 l u s k f) (made-6 l′ u′ s′ k′ v′ f′) = absurd (f v′)
-  makes-once (made-4 l u s k f) (made-0 l′ u′ s′ k′ v′ _ _ _ _ h′) = absurd (f v′)
+  makes-once (made-4 l u s k f) (made-0 l′ u′ s′ k′ v′ _ _ h′) = absurd (f v′)
   makes-once (made-6 l u s k v f) (made-1 f′) = absurd (f′ l)
   makes-once (made-6 l u s k v f) (made-2 l′ f′) = absurd (f′ u s)
   makes-once (made-6 l u s k v f) (made-3 l′ u′ s′ f′) = absurd (f′ (subst known (one s s′) k))
   makes-once (made-6 l u s k v f) (made-4 l′ u′ s′ k′ f′) = absurd (f′ v)
-  makes-once (made-6 l u s k v f) (made-6 l′ u′ s′ k′ v′ f′) = (refl, refl, refl, refl, refl, refl, refl)
-  makes-once (made-6 l u s k v f) (made-0 l′ u′ s′ k′ v′ _ _ _ _ h′) = absurd (f (subst Room (one s′ s) (leaves-fits h′)))
-  makes-once (made-0 l u s k v _ _ _ _ h) (made-1 f′) = absurd (f′ l)
-  makes-once (made-0 l u s k v _ _ _ _ h) (made-2 l′ f′) = absurd (f′ u s)
-  makes-once (made-0 l u s k v _ _ _ _ h) (made-3 l′ u′ s′ f′) = absurd (f′ (subst known (one s s′) k))
-  makes-once (made-0 l u s k v _ _ _ _ h) (made-4 l′ u′ s′ k′ f′) = absurd (f′ v)
-  makes-once (made-0 l u s k v _ _ _ _ h) (made-6 l′ u′ s′ k′ v′ f′) = absurd (f′ (subst Room (one s s′) (leaves-fits h)))
-  makes-once (made-0 l u s k v _ _ _ _ h) (made-0 l′ u′ s′ k′ v′ _ _ _ _ h′) = let w = same-done (one s s′) h h′ in (refl, ap (λ (m : ℕ). (wanted m) .1) (one s s′), w .0, w .1, w .2, w .3, refl)
+  makes-once (made-6 l u s k v f) (made-6 l′ u′ s′ k′ v′ f′) = (refl, refl, refl, refl, refl)
+  makes-once (made-6 l u s k v f) (made-0 l′ u′ s′ k′ v′ _ _ h′) = absurd (f (subst Room (one s′ s) (leaves-fits h′)))
+  makes-once (made-0 l u s k v _ _ h) (made-1 f′) = absurd (f′ l)
+  makes-once (made-0 l u s k v _ _ h) (made-2 l′ f′) = absurd (f′ u s)
+  makes-once (made-0 l u s k v _ _ h) (made-3 l′ u′ s′ f′) = absurd (f′ (subst known (one s s′) k))
+  makes-once (made-0 l u s k v _ _ h) (made-4 l′ u′ s′ k′ f′) = absurd (f′ v)
+  makes-once (made-0 l u s k v _ _ h) (made-6 l′ u′ s′ k′ v′ f′) = absurd (f′ (subst Room (one s s′) (leaves-fits h)))
+  makes-once (made-0 l u s k v _ _ h) (made-0 l′ u′ s′ k′ v′ _ _ h′) = let w = same-done (one s s′) h h′ in (refl, ap (λ (m : ℕ). (wanted m) .1) (one s s′), w .0, w .1, refl)
 
 module _ (st : Store) (index : List ℕ) (x y : ℕ) where
   abbrev Told : ℕ → Bool → Type 0

@@ -42,49 +42,49 @@ AnswersAlways known kind want m = (t : Table) → Sound t → known (length t) �
 module _ (lent : Type 0) (known : ℕ → Type 0) (kind : Type 0) (want : Table → Table × ℕ) (m : Table → Reading → Bool) (right : AnswersAlways known kind want m)
     (st : Store) (index memo : List ℕ) where
   abbrev Out : ℕ → ℕ → Store → List ℕ → List ℕ → Type 0
-  Out k id n c t i z = Makes lent known kind want st index memo k id n c t i z
+  Out k id st′ index′ memo′ = Makes lent known kind want st index memo k id st′ index′ memo′
 
   right-here : (u : ℕ) → SoundLent st index u → known u → kind → Answers (held st u) (m (held st u)) (want (held st u))
   right-here u s a v = right (held st u) (holds-a-sound-table st index u s) (subst known (sym ((counts-what-is-held st index u s) .0)) a) v
 
   -- Number 0: the id is the answer.
-  pub answered : {k id : ℕ} {n c i z : List ℕ} {t : List ℤ} → Out k id n c t i z → k ≡ done → Answered m st index id n c t i
+  pub answered : {k id : ℕ} {st′ : Store} {index′ memo′ : List ℕ} → Out k id st′ index′ memo′ → k ≡ done → Answered m st index id st′ index′
   answered (made-1 f) e = absurd (omega arith)
   answered (made-2 l f) e = absurd (omega arith)
   answered (made-3 l u s f) e = absurd (omega arith)
   answered (made-4 l u s a f) e = absurd (omega arith)
   answered (made-6 l u s a v f) e = absurd (omega arith)
-  answered (made-0 l u s a v _ _ _ _ h) e = record { before = u; found = s; after = h .nodes; left = h .sound; answers = rw (h .holds) (right-here u s a v) }
+  answered (made-0 l u s a v _ _ h) e = record { before = u; found = s; after = h .used; left = h .sound; answers = rw (h .holds) (right-here u s a v) }
 
   -- Numbers 0 and 6: where the checks 1 to 4 pass, a call is done when there is room for the answer, and says 6 when there is none.
-  pub done-or-no-room : {k id : ℕ} {n c i z : List ℕ} {t : List ℤ} → Out k id n c t i z → lent → (u : ℕ) → SoundLent st index u → known u → kind
+  pub done-or-no-room : {k id : ℕ} {st′ : Store} {index′ memo′ : List ℕ} → Out k id st′ index′ memo′ → lent → (u : ℕ) → SoundLent st index u → known u → kind
       → DoneOrNoRoom m st u k
   done-or-no-room (made-1 f) l u s a v = absurd (f l)
   done-or-no-room (made-2 l′ f) l u s a v = absurd (f u s)
   done-or-no-room (made-3 l′ u′ s′ f) l u s a v = absurd (f (subst known (sound-once st index u u′ s s′) a))
   done-or-no-room (made-4 l′ u′ s′ a′ f) l u s a v = absurd (f v)
   done-or-no-room (made-6 l′ u′ s′ a′ v′ f) l u s a v = inr (refl, λ h. f (fits-exactly _ _ _ (right-here u′ s′ a′ v′) (room (st .nodes)) (length (st .children)) .0 (subst (HasRoom m st) (sound-once st index u u′ s s′) h)))
-  done-or-no-room (made-0 l′ u′ s′ a′ v′ _ _ _ _ h) l u s a v =
+  done-or-no-room (made-0 l′ u′ s′ a′ v′ _ _ h) l u s a v =
       inl (refl, subst (HasRoom m st) (sound-once st index u′ u s′ s) (fits-exactly _ _ _ (right-here u′ s′ a′ v′) (room (st .nodes)) (length (st .children)) .1 (leaves-fits h)))
 
 module _ (lent : Type 0) (known : ℕ → Type 0) (kind : Type 0) (want : Table → Table × ℕ) (st : Store) (index : List ℕ) where
   -- Number 0 is told where the checks 2 to 4 pass.
-  done-admitted : {k id : ℕ} {memo n c i z : List ℕ} {t : List ℤ} → Makes lent known kind want st index memo k id n c t i z → k ≡ done → (u : ℕ) × SoundLent st index u × known u × kind
+  done-admitted : {k id : ℕ} {memo : List ℕ} {st′ : Store} {index′ memo′ : List ℕ} → Makes lent known kind want st index memo k id st′ index′ memo′ → k ≡ done → (u : ℕ) × SoundLent st index u × known u × kind
   done-admitted (made-1 f) e = absurd (omega arith)
   done-admitted (made-2 l f) e = absurd (omega arith)
   done-admitted (made-3 l u s f) e = absurd (omega arith)
   done-admitted (made-4 l u s a f) e = absurd (omega arith)
   done-admitted (made-6 l u s a v f) e = absurd (omega arith)
-  done-admitted (made-0 l u s a v _ _ _ _ h) e = (u, s, a, v)
+  done-admitted (made-0 l u s a v _ _ h) e = (u, s, a, v)
 
   -- A refusal answers FALSE and leaves the table as it was found.
-  pub refused-changes-nothing : {k id : ℕ} {memo n c i z : List ℕ} {t : List ℤ} → Makes lent known kind want st index memo k id n c t i z → (k ≡ done → ⊥) → (id ≡ FALSE) × (n ≡ (st .nodes)) × (c ≡ (st .children)) × (t ≡ (st .cuts)) × (i ≡ index)
-  refused-changes-nothing (made-1 f) e = (refl, refl, refl, refl, refl)
-  refused-changes-nothing (made-2 l f) e = (refl, refl, refl, refl, refl)
-  refused-changes-nothing (made-3 l u s f) e = (refl, refl, refl, refl, refl)
-  refused-changes-nothing (made-4 l u s a f) e = (refl, refl, refl, refl, refl)
-  refused-changes-nothing (made-6 l u s a v f) e = (refl, refl, refl, refl, refl)
-  refused-changes-nothing (made-0 l u s a v _ _ _ _ h) e = absurd (e refl)
+  pub refused-changes-nothing : {k id : ℕ} {memo : List ℕ} {st′ : Store} {index′ memo′ : List ℕ} → Makes lent known kind want st index memo k id st′ index′ memo′ → (k ≡ done → ⊥) → (id ≡ FALSE) × (st′ ≡ st) × (index′ ≡ index)
+  refused-changes-nothing (made-1 f) e = (refl, refl, refl)
+  refused-changes-nothing (made-2 l f) e = (refl, refl, refl)
+  refused-changes-nothing (made-3 l u s f) e = (refl, refl, refl)
+  refused-changes-nothing (made-4 l u s a f) e = (refl, refl, refl)
+  refused-changes-nothing (made-6 l u s a v f) e = (refl, refl, refl)
+  refused-changes-nothing (made-0 l u s a v _ _ h) e = absurd (e refl)
 
 -- The same reading with variable v at "the nearest place inside the bounds".
 abbrev pub atNearest : (v : ℕ) (lower upper : Bound) → Keyed lower → Keyed upper → Reading → Reading
@@ -129,7 +129,7 @@ restrict-right : (id v : ℕ) (value : Bool) → firstBoolean ≤ v → AnswersA
 restrict-right id v value b t z a h = restrict-answers t z id a v b h value
 
 restrict-range-right : (id v : ℕ) (value : Bool) → v < firstBoolean → AnswersAlways (λ u. KnownTo u id) (v < variables) (λ t. restrict t v value id) (λ t ρ. says t ρ id)
-restrict-range-right id v value b t z a h = rw (restrict-range t z id a v b value) (record { sound = z; continues = same; known = a; means = λ ρ. refl; reached = λ r l m. absurd (omega arith) })
+restrict-range-right id v value b t z a h = rw (restrict-range t z id a v b value) (record { right = record { sound = z; continues = same; known = a; means = λ ρ. refl }; reached = λ r l m. absurd (omega arith) })
 
 -- what the table and the id that narrowing makes say
 abbrev emptied : ℕ → ℕ → Bound → Bound → Table → Reading → Bool
@@ -148,7 +148,7 @@ module _ (id v : ℕ) (lower upper : Bound) (kl : Keyed lower) (ku : Keyed upper
     emptied-as-asked t z a h =
         let m = empty-answer-exists t z v h id a in
         let x = narrow-empty-answers t z id a v h lower upper kl ku e (m .0) (m .1) in
-        λ ρ. (λ c. x .means ρ ∙ (m .1) ρ .0 c, λ s. x .means ρ ∙ (m .1) ρ .1 s)
+        λ ρ. (λ c. x .right .means ρ ∙ (m .1) ρ .0 c, λ s. x .right .means ρ ∙ (m .1) ρ .1 s)
 
     emptied-here : (st : Store) (index : List ℕ) (u : ℕ) → SoundLent st index u → KnownTo u id → v < firstBoolean
         → EmptyAnswer (held st u) v id (emptied id v lower upper (held st u))
@@ -160,74 +160,74 @@ module _ (id v : ℕ) (lower upper : Bound) (kl : Keyed lower) (ku : Keyed upper
 
 -- The calls that may add nodes: what the id says beside 0, and that 0 or 6 is told by whether there is room.
 module _ (st : Store) (index : List ℕ) where
-  module _ (v : ℕ) {k id : ℕ} {n c i : List ℕ} {t : List ℤ} where
+  module _ (v : ℕ) {k id : ℕ} {st′ : Store} {index′ : List ℕ} where
     -- Step 3: a range by two bounds holds where the place is inside,
-    pub from-range-answered : (lower upper : Bound) → Keyed lower → Keyed upper → FromRange st index v lower upper k id n c t i → k ≡ done → Answered (λ s ρ. inside lower upper (ρ .place v)) st index id n c t i
+    pub from-range-answered : (lower upper : Bound) → Keyed lower → Keyed upper → FromRange st index v lower upper k id st′ index′ → k ≡ done → Answered (λ s ρ. inside lower upper (ρ .place v)) st index id st′ index′
     from-range-answered lower upper kl ku o = answered _ _ _ _ _ (from-range-right v lower upper kl ku) st index _ o
 
-    pub from-range-room : (lower upper : Bound) → Keyed lower → Keyed upper → FromRange st index v lower upper k id n c t i → Allowed st index → (u : ℕ) → SoundLent st index u → v < firstBoolean → DoneOrNoRoom (λ s ρ. inside lower upper (ρ .place v)) st u k
+    pub from-range-room : (lower upper : Bound) → Keyed lower → Keyed upper → FromRange st index v lower upper k id st′ index′ → Allowed st index → (u : ℕ) → SoundLent st index u → v < firstBoolean → DoneOrNoRoom (λ s ρ. inside lower upper (ρ .place v)) st u k
     from-range-room lower upper kl ku o l u s h = done-or-no-room _ _ _ _ _ (from-range-right v lower upper kl ku) st index _ o l u s tt h
 
     -- a comparison where the place compares so with the key,
-    pub comparison-answered : (op : Comparison) (key : ℤ) → Key key → Compares st index v op key k id n c t i → k ≡ done → Answered (λ s ρ. compares op key (ρ .place v)) st index id n c t i
+    pub comparison-answered : (op : Comparison) (key : ℤ) → Key key → Compares st index v op key k id st′ index′ → k ≡ done → Answered (λ s ρ. compares op key (ρ .place v)) st index id st′ index′
     comparison-answered op key kk o = answered _ _ _ _ _ (comparison-right v op key kk) st index _ o
 
-    pub comparison-room : (op : Comparison) (key : ℤ) → Key key → Compares st index v op key k id n c t i → Allowed st index → (u : ℕ) → SoundLent st index u → v < firstBoolean → DoneOrNoRoom (λ s ρ. compares op key (ρ .place v)) st u k
+    pub comparison-room : (op : Comparison) (key : ℤ) → Key key → Compares st index v op key k id st′ index′ → Allowed st index → (u : ℕ) → SoundLent st index u → v < firstBoolean → DoneOrNoRoom (λ s ρ. compares op key (ρ .place v)) st u k
     comparison-room op key kk o l u s h = done-or-no-room _ _ _ _ _ (comparison-right v op key kk) st index _ o l u s tt h
 
     -- and a boolean where it is yes.
-    pub from-bool-answered : FromBool st index v k id n c t i → k ≡ done → Answered (λ s ρ. ρ .holds v) st index id n c t i
+    pub from-bool-answered : FromBool st index v k id st′ index′ → k ≡ done → Answered (λ s ρ. ρ .holds v) st index id st′ index′
     from-bool-answered o = answered _ _ _ _ _ (from-bool-right v) st index _ o
 
-    pub from-bool-room : FromBool st index v k id n c t i → Allowed st index → (u : ℕ) → SoundLent st index u → (firstBoolean ≤ v) × (v < variables) → DoneOrNoRoom (λ s ρ. ρ .holds v) st u k
+    pub from-bool-room : FromBool st index v k id st′ index′ → Allowed st index → (u : ℕ) → SoundLent st index u → (firstBoolean ≤ v) × (v < variables) → DoneOrNoRoom (λ s ρ. ρ .holds v) st u k
     from-bool-room o l u s h = done-or-no-room _ _ _ _ _ (from-bool-right v) st index _ o l u s tt h
 
-  module _ (memo : List ℕ) (x y : ℕ) {k id : ℕ} {n c i z : List ℕ} {t : List ℤ} where
+  module _ (memo : List ℕ) (x y : ℕ) {k id : ℕ} {st′ : Store} {index′ memo′ : List ℕ} where
     -- Step 5: conjunction says both,
-    pub and-answered : Ands st index memo x y k id n c t i z → k ≡ done → Answered (λ s ρ. says s ρ x && says s ρ y) st index id n c t i
+    pub and-answered : Ands st index memo x y k id st′ index′ memo′ → k ≡ done → Answered (λ s ρ. says s ρ x && says s ρ y) st index id st′ index′
     and-answered o = answered _ _ _ _ _ (and-right x y) st index memo o
 
-    pub and-room : Ands st index memo x y k id n c t i z → Lending st index memo → (u : ℕ) → SoundLent st index u → BothKnown x y u → DoneOrNoRoom (λ s ρ. says s ρ x && says s ρ y) st u k
+    pub and-room : Ands st index memo x y k id st′ index′ memo′ → Lending st index memo → (u : ℕ) → SoundLent st index u → BothKnown x y u → DoneOrNoRoom (λ s ρ. says s ρ x && says s ρ y) st u k
     and-room o l u s a = done-or-no-room _ _ _ _ _ (and-right x y) st index memo o l u s a tt
 
     -- and disjunction either.
-    pub or-answered : Ors st index memo x y k id n c t i z → k ≡ done → Answered (λ s ρ. says s ρ x || says s ρ y) st index id n c t i
+    pub or-answered : Ors st index memo x y k id st′ index′ memo′ → k ≡ done → Answered (λ s ρ. says s ρ x || says s ρ y) st index id st′ index′
     or-answered o = answered _ _ _ _ _ (or-right x y) st index memo o
 
-    pub or-room : Ors st index memo x y k id n c t i z → Lending st index memo → (u : ℕ) → SoundLent st index u → BothKnown x y u → DoneOrNoRoom (λ s ρ. says s ρ x || says s ρ y) st u k
+    pub or-room : Ors st index memo x y k id st′ index′ memo′ → Lending st index memo → (u : ℕ) → SoundLent st index u → BothKnown x y u → DoneOrNoRoom (λ s ρ. says s ρ x || says s ρ y) st u k
     or-room o l u s a = done-or-no-room _ _ _ _ _ (or-right x y) st index memo o l u s a tt
 
   -- Steps 7 to 9, of an id and a variable.
-  module _ (memo : List ℕ) (id v : ℕ) {k to : ℕ} {n c i z : List ℕ} {t : List ℤ} where
+  module _ (memo : List ℕ) (id v : ℕ) {k to : ℕ} {st′ : Store} {index′ memo′ : List ℕ} where
     -- Restriction of a boolean says what the id says with the boolean at the value,
-    pub restrict-answered : (value : Bool) → firstBoolean ≤ v → Restricts st index memo id v value k to n c t i z → k ≡ done → Answered (λ s ρ. says s (switched ρ v value) id) st index to n c t i
+    pub restrict-answered : (value : Bool) → firstBoolean ≤ v → Restricts st index memo id v value k to st′ index′ memo′ → k ≡ done → Answered (λ s ρ. says s (switched ρ v value) id) st index to st′ index′
     restrict-answered value b o = answered _ _ _ _ _ (restrict-right id v value b) st index memo o
 
-    pub restrict-room : (value : Bool) → firstBoolean ≤ v → Restricts st index memo id v value k to n c t i z → Lending st index memo → (u : ℕ) → SoundLent st index u → KnownTo u id → v < variables
+    pub restrict-room : (value : Bool) → firstBoolean ≤ v → Restricts st index memo id v value k to st′ index′ memo′ → Lending st index memo → (u : ℕ) → SoundLent st index u → KnownTo u id → v < variables
         → DoneOrNoRoom (λ s ρ. says s (switched ρ v value) id) st u k
     restrict-room value b o l u s a h = done-or-no-room _ _ _ _ _ (restrict-right id v value b) st index memo o l u s a h
 
     -- and of a range variable what the id says.
-    pub restrict-range-answered : (value : Bool) → v < firstBoolean → Restricts st index memo id v value k to n c t i z → k ≡ done → Answered (λ s ρ. says s ρ id) st index to n c t i
+    pub restrict-range-answered : (value : Bool) → v < firstBoolean → Restricts st index memo id v value k to st′ index′ memo′ → k ≡ done → Answered (λ s ρ. says s ρ id) st index to st′ index′
     restrict-range-answered value b o = answered _ _ _ _ _ (restrict-range-right id v value b) st index memo o
 
-    pub restrict-range-room : (value : Bool) → v < firstBoolean → Restricts st index memo id v value k to n c t i z → Lending st index memo → (u : ℕ) → SoundLent st index u → KnownTo u id
+    pub restrict-range-room : (value : Bool) → v < firstBoolean → Restricts st index memo id v value k to st′ index′ memo′ → Lending st index memo → (u : ℕ) → SoundLent st index u → KnownTo u id
         → DoneOrNoRoom (λ s ρ. says s ρ id) st u k
     restrict-range-room value b o l u s a = done-or-no-room _ _ _ _ _ (restrict-range-right id v value b) st index memo o l u s a (omega arith)
 
     module _ (lower upper : Bound) (kl : Keyed lower) (ku : Keyed upper) where
       -- Narrowing: "the answer at a place is the old answer at the nearest place inside the bounds";
-      pub narrow-answered : empty lower upper ≡ false → Narrows st index memo id v lower upper k to n c t i z → k ≡ done
-          → Answered (λ s ρ. says s (atNearest v lower upper kl ku ρ) id) st index to n c t i
+      pub narrow-answered : empty lower upper ≡ false → Narrows st index memo id v lower upper k to st′ index′ memo′ → k ≡ done
+          → Answered (λ s ρ. says s (atNearest v lower upper kl ku ρ) id) st index to st′ index′
       narrow-answered e o = answered _ _ _ _ _ (narrow-right id v lower upper kl ku e) st index memo o
 
-      pub narrow-room : empty lower upper ≡ false → Narrows st index memo id v lower upper k to n c t i z → Lending st index memo → (u : ℕ) → SoundLent st index u → KnownTo u id → v < firstBoolean
+      pub narrow-room : empty lower upper ≡ false → Narrows st index memo id v lower upper k to st′ index′ memo′ → Lending st index memo → (u : ℕ) → SoundLent st index u → KnownTo u id → v < firstBoolean
           → DoneOrNoRoom (λ s ρ. says s (atNearest v lower upper kl ku ρ) id) st u k
       narrow-room e o l u s a h = done-or-no-room _ _ _ _ _ (narrow-right id v lower upper kl ku e) st index memo o l u s a h
 
       -- "with empty bounds the answer is FALSE wherever, the earlier variables being fixed, the old answer still changes with the chosen
       -- one; elsewhere it is the old answer".
-      pub narrow-empty-answered : empty lower upper ≡ true → Narrows st index memo id v lower upper k to n c t i z → k ≡ done → EmptyAnswered id v st index to n c t i
+      pub narrow-empty-answered : empty lower upper ≡ true → Narrows st index memo id v lower upper k to st′ index′ memo′ → k ≡ done → EmptyAnswered id v st index to st′ index′
       narrow-empty-answered e o d =
           let x = answered _ _ _ _ _ (narrow-empty-right id v lower upper kl ku e) st index memo o d in
           let y = done-admitted _ _ _ _ st index o d in
@@ -237,7 +237,7 @@ module _ (st : Store) (index : List ℕ) where
             empties = emptied-here id v lower upper kl ku e st index (x .before) (x .found) (subst (λ (u : ℕ). KnownTo u id) (sound-once st index (y .0) (x .before) (y .1) (x .found)) (y .2)) (y .3);
           }
 
-      pub narrow-empty-room : empty lower upper ≡ true → Narrows st index memo id v lower upper k to n c t i z → Lending st index memo → (u : ℕ) → SoundLent st index u → KnownTo u id → v < firstBoolean
+      pub narrow-empty-room : empty lower upper ≡ true → Narrows st index memo id v lower upper k to st′ index′ memo′ → Lending st index memo → (u : ℕ) → SoundLent st index u → KnownTo u id → v < firstBoolean
           → EmptyDoneOrNoRoom id v st u k
       narrow-empty-room e o l u s a h = record {
         m = emptied id v lower upper (held st u);
@@ -246,10 +246,10 @@ module _ (st : Store) (index : List ℕ) where
       }
 
       -- Widening: "old answer and inside the bounds".
-      pub widen-answered : Widens st index memo id v lower upper k to n c t i z → k ≡ done → Answered (λ s ρ. says s ρ id && inside lower upper (ρ .place v)) st index to n c t i
+      pub widen-answered : Widens st index memo id v lower upper k to st′ index′ memo′ → k ≡ done → Answered (λ s ρ. says s ρ id && inside lower upper (ρ .place v)) st index to st′ index′
       widen-answered o = answered _ _ _ _ _ (widen-right id v lower upper kl ku) st index memo o
 
-      pub widen-room : Widens st index memo id v lower upper k to n c t i z → Lending st index memo → (u : ℕ) → SoundLent st index u → KnownTo u id → v < firstBoolean
+      pub widen-room : Widens st index memo id v lower upper k to st′ index′ memo′ → Lending st index memo → (u : ℕ) → SoundLent st index u → KnownTo u id → v < firstBoolean
           → DoneOrNoRoom (λ s ρ. says s ρ id && inside lower upper (ρ .place v)) st u k
       widen-room o l u s a h = done-or-no-room _ _ _ _ _ (widen-right id v lower upper kl ku) st index memo o l u s a h
 
@@ -265,19 +265,19 @@ disjoint-told st index x y (disjoint-0 l u s a) e =
 
 -- The memo is "never believed": whatever it held, a call gives the same number, the same id and the same table.
 module _ {lent lent″ : Type 0} (to : lent → lent″) (back : lent″ → lent) (known : ℕ → Type 0) (kind : Type 0) (want : Table → Table × ℕ) (st : Store) (index memo memo″ : List ℕ) where
-  with-memo : {k id : ℕ} {n c i z : List ℕ} {t : List ℤ} → Makes lent known kind want st index memo k id n c t i z
-      → (z″ : List ℕ) × Makes lent″ known kind want st index memo″ k id n c t i z″
+  with-memo : {k id : ℕ} {st′ : Store} {index′ memo′ : List ℕ} → Makes lent known kind want st index memo k id st′ index′ memo′
+      → (z″ : List ℕ) × Makes lent″ known kind want st index memo″ k id st′ index′ z″
   with-memo (made-1 f) = (memo″, made-1 (λ l. f (back l)))
   with-memo (made-2 l f) = (memo″, made-2 (to l) f)
   with-memo (made-3 l u s f) = (memo″, made-3 (to l) u s f)
   with-memo (made-4 l u s a f) = (memo″, made-4 (to l) u s a f)
   with-memo (made-6 l u s a v f) = (replicate (length memo″) 0, made-6 (to l) u s a v f)
-  with-memo (made-0 l u s a v n c t i h) = (replicate (length memo″) 0, made-0 (to l) u s a v n c t i h)
+  with-memo (made-0 l u s a v st′ index′ h) = (replicate (length memo″) 0, made-0 (to l) u s a v st′ index′ h)
 
-pub memo-never-believed : (known : ℕ → Type 0) (kind : Type 0) (want : Table → Table × ℕ) (st : Store) (index memo memo″ : List ℕ) → length memo ≡ length memo″ → {k k″ id id″ : ℕ} {n n″ c c″ i i″ z z″ : List ℕ} {t t″ : List ℤ}
-    → WithMemo st index memo known kind want k id n c t i z → WithMemo st index memo″ known kind want k″ id″ n″ c″ t″ i″ z″
-    → (k ≡ k″) × (id ≡ id″) × (n ≡ n″) × (c ≡ c″) × (t ≡ t″) × (i ≡ i″)
+pub memo-never-believed : (known : ℕ → Type 0) (kind : Type 0) (want : Table → Table × ℕ) (st : Store) (index memo memo″ : List ℕ) → length memo ≡ length memo″ → {k k″ id id″ : ℕ} {st′ st″ : Store} {index′ index″ z z″ : List ℕ}
+    → WithMemo st index memo known kind want k id st′ index′ z → WithMemo st index memo″ known kind want k″ id″ st″ index″ z″
+    → (k ≡ k″) × (id ≡ id″) × (st′ ≡ st″) × (index′ ≡ index″)
 memo-never-believed known kind want st index memo memo″ e o o″ =
     let w = with-memo {lent″ = Lending st index memo″} (λ l. (l .0, sym e ∙ l .1)) (λ l. (l .0, e ∙ l .1)) known kind want st index memo memo″ o in
     let q = makes-once (Lending st index memo″) known kind want st index memo″ (w .1) o″ in
-    (q .0, q .1, q .2, q .3, q .4, q .5)
+    (q .0, q .1, q .2, q .3)

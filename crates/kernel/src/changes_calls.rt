@@ -13,6 +13,7 @@ use changes::restriction;
 use changes::widening;
 use ids::NodeId;
 use ranges::bounds::Bound;
+use table::fresh::zero_words;
 use table::told::DONE;
 use table::words::wide;
 
@@ -35,7 +36,10 @@ pub fn restrict(
         return refused(a.number);
     }
     let used = a.used;
-    answer_of(restriction::restrict(nodes, children, cuts, index, memo, used, id, wide(v), value))
+    zero_words(memo);
+    let m = restriction::restrict(nodes, children, cuts, index, memo, used, id, wide(v), value);
+    zero_words(memo);
+    answer_of(m)
 }
 
 // "The answer at a place is the old answer at the nearest place inside the bounds".
@@ -58,7 +62,8 @@ pub fn narrow(
         return refused(a.number);
     }
     let used = a.used;
-    answer_of(narrowing::narrow(
+    zero_words(memo);
+    let m = narrowing::narrow(
         nodes,
         children,
         cuts,
@@ -69,7 +74,9 @@ pub fn narrow(
         wide(v),
         lower,
         upper,
-    ))
+    );
+    zero_words(memo);
+    answer_of(m)
 }
 
 // "Old answer and inside the bounds."
@@ -92,7 +99,8 @@ pub fn widen(
         return refused(a.number);
     }
     let used = a.used;
-    answer_of(widening::widen(
+    zero_words(memo);
+    let m = widening::widen(
         nodes,
         children,
         cuts,
@@ -103,5 +111,7 @@ pub fn widen(
         wide(v),
         lower,
         upper,
-    ))
+    );
+    zero_words(memo);
+    answer_of(m)
 }

@@ -1,4 +1,5 @@
-// Conjunction and disjunction. Document 01, step 5. Refusals 1, 2, 3 and 6.
+// Conjunction and disjunction. Document 01, step 5. Refusals 1, 2, 3 and 6. "The memo is scratch: zeroed at entry, never believed", and all zero
+// at the end.
 ghost use Rattle.kernel.specs.Makes.{Ands, Ors};
 ghost use Rattle.table.specs.Layout.{store};
 use super::admission::admit_ids;
@@ -7,6 +8,7 @@ use super::answers::answer_of;
 use super::answers::refused;
 use conjunction::joins;
 use ids::NodeId;
+use table::fresh::zero_words;
 use table::told::DONE;
 
 // Both.
@@ -26,7 +28,10 @@ pub fn and(
         return refused(a.number);
     }
     let used = a.used;
-    answer_of(joins::and(nodes, children, cuts, index, memo, used, x, y))
+    zero_words(memo);
+    let m = joins::and(nodes, children, cuts, index, memo, used, x, y);
+    zero_words(memo);
+    answer_of(m)
 }
 
 // One or both.
@@ -46,5 +51,8 @@ pub fn or(
         return refused(a.number);
     }
     let used = a.used;
-    answer_of(joins::or(nodes, children, cuts, index, memo, used, x, y))
+    zero_words(memo);
+    let m = joins::or(nodes, children, cuts, index, memo, used, x, y);
+    zero_words(memo);
+    answer_of(m)
 }

@@ -1,5 +1,6 @@
 // Conditions: the six comparisons, a range by two bounds, a boolean. Each function returns the number of document 01 and writes the id,
 // which is 1 beside every number but 0. The comparisons have a function each, so that C needs no numbers for them.
+ghost use Rattle.table.specs.Layout.{store};
 ghost use Rattle.ranges.specs.declared.bounds.Comparison.the-variants.{Equal, NotEqual, LessThan, LessEqual, GreaterThan, GreaterEqual};
 ghost use Rattle.kernel.specs.Makes.{Compares, FromRange, FromBool};
 ghost use Rattle.spanwhistle.specs.Numbers.{boundOf};
@@ -18,7 +19,7 @@ pub extern "C" fn spanwhistle_equal(
     key: i32,
     id: &mut u32,
 ) -> u32
-    ensures { λ r. ⌜ Compares (now (nodes .entry)) (now (children .entry)) (now (cuts .entry)) (now (index .entry)) variable Equal key r (now (id .exit)) (now (nodes .exit)) (now (children .exit)) (now (cuts .exit)) (now (index .exit)) ⌝ }
+    ensures { λ r. ⌜ Compares (store (now (nodes .entry)) (now (children .entry)) (now (cuts .entry))) (now (index .entry)) variable Equal key r (now (id .exit)) (store (now (nodes .exit)) (now (children .exit)) (now (cuts .exit))) (now (index .exit)) ⌝ }
 {
     let op = Comparison::Equal;
     let a = conditions_calls::from_comparison(nodes, children, cuts, index, variable, op, key);
@@ -37,7 +38,7 @@ pub extern "C" fn spanwhistle_not_equal(
     key: i32,
     id: &mut u32,
 ) -> u32
-    ensures { λ r. ⌜ Compares (now (nodes .entry)) (now (children .entry)) (now (cuts .entry)) (now (index .entry)) variable NotEqual key r (now (id .exit)) (now (nodes .exit)) (now (children .exit)) (now (cuts .exit)) (now (index .exit)) ⌝ }
+    ensures { λ r. ⌜ Compares (store (now (nodes .entry)) (now (children .entry)) (now (cuts .entry))) (now (index .entry)) variable NotEqual key r (now (id .exit)) (store (now (nodes .exit)) (now (children .exit)) (now (cuts .exit))) (now (index .exit)) ⌝ }
 {
     let op = Comparison::NotEqual;
     let a = conditions_calls::from_comparison(nodes, children, cuts, index, variable, op, key);
@@ -56,7 +57,7 @@ pub extern "C" fn spanwhistle_less_than(
     key: i32,
     id: &mut u32,
 ) -> u32
-    ensures { λ r. ⌜ Compares (now (nodes .entry)) (now (children .entry)) (now (cuts .entry)) (now (index .entry)) variable LessThan key r (now (id .exit)) (now (nodes .exit)) (now (children .exit)) (now (cuts .exit)) (now (index .exit)) ⌝ }
+    ensures { λ r. ⌜ Compares (store (now (nodes .entry)) (now (children .entry)) (now (cuts .entry))) (now (index .entry)) variable LessThan key r (now (id .exit)) (store (now (nodes .exit)) (now (children .exit)) (now (cuts .exit))) (now (index .exit)) ⌝ }
 {
     let op = Comparison::LessThan;
     let a = conditions_calls::from_comparison(nodes, children, cuts, index, variable, op, key);
@@ -75,7 +76,7 @@ pub extern "C" fn spanwhistle_less_equal(
     key: i32,
     id: &mut u32,
 ) -> u32
-    ensures { λ r. ⌜ Compares (now (nodes .entry)) (now (children .entry)) (now (cuts .entry)) (now (index .entry)) variable LessEqual key r (now (id .exit)) (now (nodes .exit)) (now (children .exit)) (now (cuts .exit)) (now (index .exit)) ⌝ }
+    ensures { λ r. ⌜ Compares (store (now (nodes .entry)) (now (children .entry)) (now (cuts .entry))) (now (index .entry)) variable LessEqual key r (now (id .exit)) (store (now (nodes .exit)) (now (children .exit)) (now (cuts .exit))) (now (index .exit)) ⌝ }
 {
     let op = Comparison::LessEqual;
     let a = conditions_calls::from_comparison(nodes, children, cuts, index, variable, op, key);
@@ -94,7 +95,7 @@ pub extern "C" fn spanwhistle_greater_than(
     key: i32,
     id: &mut u32,
 ) -> u32
-    ensures { λ r. ⌜ Compares (now (nodes .entry)) (now (children .entry)) (now (cuts .entry)) (now (index .entry)) variable GreaterThan key r (now (id .exit)) (now (nodes .exit)) (now (children .exit)) (now (cuts .exit)) (now (index .exit)) ⌝ }
+    ensures { λ r. ⌜ Compares (store (now (nodes .entry)) (now (children .entry)) (now (cuts .entry))) (now (index .entry)) variable GreaterThan key r (now (id .exit)) (store (now (nodes .exit)) (now (children .exit)) (now (cuts .exit))) (now (index .exit)) ⌝ }
 {
     let op = Comparison::GreaterThan;
     let a = conditions_calls::from_comparison(nodes, children, cuts, index, variable, op, key);
@@ -113,7 +114,7 @@ pub extern "C" fn spanwhistle_greater_equal(
     key: i32,
     id: &mut u32,
 ) -> u32
-    ensures { λ r. ⌜ Compares (now (nodes .entry)) (now (children .entry)) (now (cuts .entry)) (now (index .entry)) variable GreaterEqual key r (now (id .exit)) (now (nodes .exit)) (now (children .exit)) (now (cuts .exit)) (now (index .exit)) ⌝ }
+    ensures { λ r. ⌜ Compares (store (now (nodes .entry)) (now (children .entry)) (now (cuts .entry))) (now (index .entry)) variable GreaterEqual key r (now (id .exit)) (store (now (nodes .exit)) (now (children .exit)) (now (cuts .exit))) (now (index .exit)) ⌝ }
 {
     let op = Comparison::GreaterEqual;
     let a = conditions_calls::from_comparison(nodes, children, cuts, index, variable, op, key);
@@ -135,7 +136,7 @@ pub extern "C" fn spanwhistle_from_range(
     upper_key: i32,
     id: &mut u32,
 ) -> u32
-    ensures { λ r. ⌜ FromRange (now (nodes .entry)) (now (children .entry)) (now (cuts .entry)) (now (index .entry)) variable (boundOf «lower_kind» «lower_key») (boundOf «upper_kind» «upper_key») r (now (id .exit)) (now (nodes .exit)) (now (children .exit)) (now (cuts .exit)) (now (index .exit)) ⌝ }
+    ensures { λ r. ⌜ FromRange (store (now (nodes .entry)) (now (children .entry)) (now (cuts .entry))) (now (index .entry)) variable (boundOf «lower_kind» «lower_key») (boundOf «upper_kind» «upper_key») r (now (id .exit)) (store (now (nodes .exit)) (now (children .exit)) (now (cuts .exit))) (now (index .exit)) ⌝ }
 {
     let lower = bound_of(lower_kind, lower_key);
     let upper = bound_of(upper_kind, upper_key);
@@ -154,7 +155,7 @@ pub extern "C" fn spanwhistle_from_bool(
     variable: u32,
     id: &mut u32,
 ) -> u32
-    ensures { λ r. ⌜ FromBool (now (nodes .entry)) (now (children .entry)) (now (cuts .entry)) (now (index .entry)) variable r (now (id .exit)) (now (nodes .exit)) (now (children .exit)) (now (cuts .exit)) (now (index .exit)) ⌝ }
+    ensures { λ r. ⌜ FromBool (store (now (nodes .entry)) (now (children .entry)) (now (cuts .entry))) (now (index .entry)) variable r (now (id .exit)) (store (now (nodes .exit)) (now (children .exit)) (now (cuts .exit))) (now (index .exit)) ⌝ }
 {
     let a = conditions_calls::from_bool(nodes, children, cuts, index, variable);
     *id = a.id.0;

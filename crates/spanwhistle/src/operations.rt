@@ -1,5 +1,6 @@
 // What is asked of ids: conjunction, disjunction, disjointness, restriction, narrowing, widening. Each function returns the number of
 // document 01, and writes the id, which is 1 beside every number but 0, or for disjointness a word.
+ghost use Rattle.table.specs.Layout.{store};
 ghost use Rattle.kernel.specs.Makes.{Ands, Ors, Restricts, Narrows, Widens, Disjoints};
 ghost use Rattle.spanwhistle.specs.Numbers.{boundOf, isYes, Telling};
 use super::numbers::bound_of;
@@ -21,7 +22,7 @@ pub extern "C" fn spanwhistle_and(
     y: u32,
     id: &mut u32,
 ) -> u32
-    ensures { λ r. ⌜ Ands (now (nodes .entry)) (now (children .entry)) (now (cuts .entry)) (now (index .entry)) (now (memo .entry)) x y r (now (id .exit)) (now (nodes .exit)) (now (children .exit)) (now (cuts .exit)) (now (index .exit)) (now (memo .exit)) ⌝ }
+    ensures { λ r. ⌜ Ands (store (now (nodes .entry)) (now (children .entry)) (now (cuts .entry))) (now (index .entry)) (now (memo .entry)) x y r (now (id .exit)) (store (now (nodes .exit)) (now (children .exit)) (now (cuts .exit))) (now (index .exit)) (now (memo .exit)) ⌝ }
 {
     let a = joins_calls::and(nodes, children, cuts, index, memo, NodeId(x), NodeId(y));
     *id = a.id.0;
@@ -40,7 +41,7 @@ pub extern "C" fn spanwhistle_or(
     y: u32,
     id: &mut u32,
 ) -> u32
-    ensures { λ r. ⌜ Ors (now (nodes .entry)) (now (children .entry)) (now (cuts .entry)) (now (index .entry)) (now (memo .entry)) x y r (now (id .exit)) (now (nodes .exit)) (now (children .exit)) (now (cuts .exit)) (now (index .exit)) (now (memo .exit)) ⌝ }
+    ensures { λ r. ⌜ Ors (store (now (nodes .entry)) (now (children .entry)) (now (cuts .entry))) (now (index .entry)) (now (memo .entry)) x y r (now (id .exit)) (store (now (nodes .exit)) (now (children .exit)) (now (cuts .exit))) (now (index .exit)) (now (memo .exit)) ⌝ }
 {
     let a = joins_calls::or(nodes, children, cuts, index, memo, NodeId(x), NodeId(y));
     *id = a.id.0;
@@ -58,7 +59,7 @@ pub extern "C" fn spanwhistle_is_disjoint(
     y: u32,
     yes: &mut u32,
 ) -> u32
-    ensures { λ r. ⌜ Telling (Disjoints (now (nodes .entry)) (now (children .entry)) (now (cuts .entry)) (now (index .entry)) x y) r (now (yes .exit)) ⌝ }
+    ensures { λ r. ⌜ Telling (Disjoints (store (now (nodes .entry)) (now (children .entry)) (now (cuts .entry))) (now (index .entry)) x y) r (now (yes .exit)) ⌝ }
 {
     let t = disjointness_calls::is_disjoint(nodes, children, cuts, index, NodeId(x), NodeId(y));
     *yes = word_of(t.yes);
@@ -78,7 +79,7 @@ pub extern "C" fn spanwhistle_restrict(
     value: u32,
     id: &mut u32,
 ) -> u32
-    ensures { λ r. ⌜ Restricts (now (nodes .entry)) (now (children .entry)) (now (cuts .entry)) (now (index .entry)) (now (memo .entry)) x variable (isYes value) r (now (id .exit)) (now (nodes .exit)) (now (children .exit)) (now (cuts .exit)) (now (index .exit)) (now (memo .exit)) ⌝ }
+    ensures { λ r. ⌜ Restricts (store (now (nodes .entry)) (now (children .entry)) (now (cuts .entry))) (now (index .entry)) (now (memo .entry)) x variable (isYes value) r (now (id .exit)) (store (now (nodes .exit)) (now (children .exit)) (now (cuts .exit))) (now (index .exit)) (now (memo .exit)) ⌝ }
 {
     let yes = value != 0;
     let a = changes_calls::restrict(nodes, children, cuts, index, memo, NodeId(x), variable, yes);
@@ -102,7 +103,7 @@ pub extern "C" fn spanwhistle_narrow(
     upper_key: i32,
     id: &mut u32,
 ) -> u32
-    ensures { λ r. ⌜ Narrows (now (nodes .entry)) (now (children .entry)) (now (cuts .entry)) (now (index .entry)) (now (memo .entry)) x variable (boundOf «lower_kind» «lower_key») (boundOf «upper_kind» «upper_key») r (now (id .exit)) (now (nodes .exit)) (now (children .exit)) (now (cuts .exit)) (now (index .exit)) (now (memo .exit)) ⌝ }
+    ensures { λ r. ⌜ Narrows (store (now (nodes .entry)) (now (children .entry)) (now (cuts .entry))) (now (index .entry)) (now (memo .entry)) x variable (boundOf «lower_kind» «lower_key») (boundOf «upper_kind» «upper_key») r (now (id .exit)) (store (now (nodes .exit)) (now (children .exit)) (now (cuts .exit))) (now (index .exit)) (now (memo .exit)) ⌝ }
 {
     let lower = bound_of(lower_kind, lower_key);
     let upper = bound_of(upper_kind, upper_key);
@@ -137,7 +138,7 @@ pub extern "C" fn spanwhistle_widen(
     upper_key: i32,
     id: &mut u32,
 ) -> u32
-    ensures { λ r. ⌜ Widens (now (nodes .entry)) (now (children .entry)) (now (cuts .entry)) (now (index .entry)) (now (memo .entry)) x variable (boundOf «lower_kind» «lower_key») (boundOf «upper_kind» «upper_key») r (now (id .exit)) (now (nodes .exit)) (now (children .exit)) (now (cuts .exit)) (now (index .exit)) (now (memo .exit)) ⌝ }
+    ensures { λ r. ⌜ Widens (store (now (nodes .entry)) (now (children .entry)) (now (cuts .entry))) (now (index .entry)) (now (memo .entry)) x variable (boundOf «lower_kind» «lower_key») (boundOf «upper_kind» «upper_key») r (now (id .exit)) (store (now (nodes .exit)) (now (children .exit)) (now (cuts .exit))) (now (index .exit)) (now (memo .exit)) ⌝ }
 {
     let lower = bound_of(lower_kind, lower_key);
     let upper = bound_of(upper_kind, upper_key);

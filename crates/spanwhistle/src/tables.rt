@@ -1,5 +1,6 @@
 // The calls on a lent table that make no node, and negation, which needs no table. Each but negation returns the number of document 01.
 ghost use mathlib.Core.Path.{_≡_};
+ghost use Rattle.table.specs.Layout.{store};
 ghost use Rattle.ids.specs.Id.{flip};
 ghost use Rattle.table.specs.Told.{Checks, Freshens, Hears};
 ghost use Rattle.spanwhistle.specs.Numbers.{Telling};
@@ -25,7 +26,7 @@ pub extern "C" fn spanwhistle_check(
     used_nodes: &mut usize,
     used_edges: &mut usize,
 ) -> u32
-    ensures { λ r. ⌜ Checks (now (nodes .entry)) (now (children .entry)) (now (cuts .entry)) (now (index .entry)) r (now («used_nodes» .exit)) (now («used_edges» .exit)) ⌝ }
+    ensures { λ r. ⌜ Checks (store (now (nodes .entry)) (now (children .entry)) (now (cuts .entry))) (now (index .entry)) r (now («used_nodes» .exit)) (now («used_edges» .exit)) ⌝ }
 {
     let c = calls::check(nodes, children, cuts, index);
     *used_nodes = c.nodes;
@@ -41,7 +42,7 @@ pub extern "C" fn spanwhistle_fresh(
     cuts: &mut [i64],
     index: &mut [u32],
 ) -> u32
-    ensures { λ r. ⌜ Freshens (now (nodes .entry)) (now (children .entry)) (now (cuts .entry)) (now (index .entry)) r (now (nodes .exit)) (now (children .exit)) (now (cuts .exit)) (now (index .exit)) ⌝ }
+    ensures { λ r. ⌜ Freshens (store (now (nodes .entry)) (now (children .entry)) (now (cuts .entry))) (now (index .entry)) r (store (now (nodes .exit)) (now (children .exit)) (now (cuts .exit))) (now (index .exit)) ⌝ }
 {
     calls::fresh(nodes, children, cuts, index)
 }
@@ -58,7 +59,7 @@ pub extern "C" fn spanwhistle_evaluate(
     id: u32,
     yes: &mut u32,
 ) -> u32
-    ensures { λ r. ⌜ Telling (Hears (now (nodes .entry)) (now (children .entry)) (now (cuts .entry)) (now (index .entry)) (now (places .entry)) bools id) r (now (yes .exit)) ⌝ }
+    ensures { λ r. ⌜ Telling (Hears (store (now (nodes .entry)) (now (children .entry)) (now (cuts .entry))) (now (index .entry)) (now (places .entry)) bools id) r (now (yes .exit)) ⌝ }
 {
     let t = calls::evaluate(nodes, children, cuts, index, places, bools, NodeId(id));
     *yes = word_of(t.yes);

@@ -1,20 +1,21 @@
 -- `changes_calls::widen` has the one outcome that its contract allows. Assumes nothing.
+use mathlib.Core.Path.{_∙_}
 use native.Mathlib.Omega.{arith}
-use Rattle.kernel.proofs.ByIds.{ids-lent, ids-refused, ids-answered, same-widen}
+use Rattle.kernel.proofs.ByIds.{ids-lent, cleared-long, cleared, ids-refused, ids-answered, same-widen}
 use borrow.Author.Needs.{needs}
 use Rattle.kernel.proofs.changes_calls.widen.Statement.{statement}
 use Rattle.kernel.proofs.changes_calls.widen.Tie as tie
 
 returns : tie.Need-returns
-returns c = ids-refused _ _ _ _ _ _ _ _ _ _ (λ u k. k .0) (λ u k. (k, k)) (c .before .before .before .before .before .before .before .before .is-range .ensures) (c .before .before .before .admit-ids .ensures) (c .before .if1 .taken) (c .refused .ensures)
+returns c = ids-refused _ _ _ _ _ _ _ _ (λ u k. k .0) (λ u k. (k, k)) (c .before .before .before .before .before .before .before .before .is-range .ensures) (c .before .before .before .admit-ids .ensures) (c .before .if1 .taken) (c .refused .ensures)
 
 widen-requires : tie.Need-widen-requires
 widen-requires c κs =
-    let l = ids-lent (c .before .before .before .before .before .before .before .before .before .before .before .before .before .before .is-range .ensures) (c .before .before .before .before .before .before .before .before .before .admit-ids .ensures) (c .before .before .before .before .before .before .before .if1 .left) in
-    (l .0, l .1, l .2 .0, omega (arith, (c .wide .ensures .0), l .3))
+    let l = ids-lent (c .before .before .before .before .before .before .before .before .before .before .before .before .before .before .before .before .before .before .is-range .ensures) (c .before .before .before .before .before .before .before .before .before .before .before .before .before .admit-ids .ensures) (c .before .before .before .before .before .before .before .before .before .before .before .if1 .left) in
+    (l .0, cleared-long (c .before .before .before .before .before .before .before .before .before .before .before .before .before .before .before .before .before .before .before .before .before .before .before .args .memo .now) (c .before .before .before .before .before .before .before .before .zero-words .ensures) ∙ l .1, cleared (c .before .before .before .before .before .before .before .before .before .before .before .before .before .before .before .before .before .before .before .before .before .before .before .args .memo .now) (c .before .before .before .before .before .before .before .before .zero-words .ensures), l .2 .0, omega (arith, (c .wide .ensures .0), l .3))
 
 returns-2 : tie.Need-returns-2
-returns-2 c = ids-answered _ _ _ _ _ _ _ _ _ _ (λ u k. k .0) (λ u k. (k, k)) (c .before .before .before .before .before .before .before .before .before .before .before .before .before .before .before .before .before .before .before .before .before .before .before .before .before .is-range .ensures) (c .before .before .before .before .before .before .before .before .before .before .before .before .before .before .before .before .before .before .before .before .admit-ids .ensures) (c .before .before .before .before .before .before .before .before .before .before .before .before .before .before .before .before .before .before .if1 .left) (c .before .before .before .before .before .before .before .before .before .before .widen .ensures) (same-widen _ (c .before .before .before .before .before .before .before .before .before .before .before .before .before .before .before .before .before .before .before .before .before .before .before .before .before .before .before .before .before .before .args .lower) (c .before .before .before .before .before .before .before .before .before .before .before .before .before .before .before .before .before .before .before .before .before .before .before .before .before .before .before .before .before .before .args .upper) (c .before .before .before .before .before .before .before .before .before .before .before .before .before .before .before .before .before .before .before .before .before .before .before .before .before .before .before .before .before .before .args .id .0) (c .before .before .before .before .before .before .before .before .before .before .before .wide .ensures .0)) (c .answer-of .ensures)
+returns-2 c = ids-answered _ _ _ _ _ _ _ _ (λ u k. k .0) (λ u k. (k, k)) (c .before .before .before .before .before .before .before .before .before .before .before .before .before .before .before .before .before .before .before .before .before .before .before .before .before .before .before .before .before .before .before .before .before .is-range .ensures) (c .before .before .before .before .before .before .before .before .before .before .before .before .before .before .before .before .before .before .before .before .before .before .before .before .before .before .before .before .admit-ids .ensures) (c .before .before .before .before .before .before .before .before .before .before .before .before .before .before .before .before .before .before .before .before .before .before .before .before .before .before .if1 .left) (c .before .before .before .before .before .before .before .before .before .before .before .before .before .before .before .before .before .before .before .before .before .before .before .zero-words .ensures) (c .before .before .before .before .before .before .before .before .before .before .before .before .before .before .widen .ensures) (c .before .before .before .zero-words2 .ensures) (same-widen _ (c .before .before .before .before .before .before .before .before .before .before .before .before .before .before .before .before .before .before .before .before .before .before .before .before .before .before .before .before .before .before .before .before .before .before .before .before .before .before .args .lower) (c .before .before .before .before .before .before .before .before .before .before .before .before .before .before .before .before .before .before .before .before .before .before .before .before .before .before .before .before .before .before .before .before .before .before .before .before .before .before .args .upper) (c .before .before .before .before .before .before .before .before .before .before .before .before .before .before .before .before .before .before .before .before .before .before .before .before .before .before .before .before .before .before .before .before .before .before .before .before .before .before .args .id .0) (c .before .before .before .before .before .before .before .before .before .before .before .before .before .before .before .wide .ensures .0)) (c .answer-of .ensures)
 
 pub widen-spec : {M : Type 1} → statement M
 widen-spec =
@@ -29,7 +30,9 @@ widen-spec =
     (λ c. search needs)
     returns
     (λ c κs. search needs)
+    (λ c κs. search needs)
     widen-requires
+    (λ c κs. search needs)
     (λ c κs. search needs)
     (λ c. search needs)
     (λ c. search needs)

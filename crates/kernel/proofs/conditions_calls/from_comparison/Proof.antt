@@ -6,7 +6,7 @@ use Rattle.kernel.proofs.conditions_calls.from_comparison.Statement.{st
 use Rattle.kernel.proofs.conditions_calls.from_comparison.Tie as tie
 
 returns : tie.Need-returns
-returns c = condition-refused _ _ _ _ _ _ (c .before .before .before .before .is-range .ensures) (c .before .before .before .admit .ensures) (c .before .if1 .taken) (c .refused .ensures)
+returns c = condition-refused _ _ _ _ (c .before .before .before .before .is-range .ensures) (c .before .before .before .admit .ensures) (c .before .if1 .taken) (c .refused .ensures)
 
 from-comparison-requires : tie.Need-from-comparison-requires
 from-comparison-requires c κs =
@@ -14,7 +14,7 @@ from-comparison-requires c κs =
     (x .0, omega (arith, (c .wide .ensures .0), x .1))
 
 returns-2 : tie.Need-returns-2
-returns-2 c = condition-answered _ _ _ _ _ _ (admitted-lent (c .before .before .before .before .before .before .before .before .before .before .before .before .before .before .before .before .before .before .is-range .ensures) (c .before .before .before .before .before .before .before .before .before .before .before .before .before .before .before .before .before .admit .ensures) (c .before .before .before .before .before .before .before .before .before .before .before .before .before .before .before .if1 .left)) (c .before .before .before .before .before .before .before .before .from-comparison .ensures) (same-comparison _ (c .before .before .before .before .before .before .before .before .before .before .before .before .before .before .before .before .before .before .before .before .before .before .before .before .before .before .args .op) (c .before .before .before .before .before .before .before .before .before .before .before .before .before .before .before .before .before .before .before .before .before .before .before .before .before .before .args .key) (c .before .before .before .before .before .before .before .before .before .wide .ensures .0) (c .before .before .before .before .before .before .before .before .before .before .before .before .before .before .before .before .before .before .before .before .before .before .before .before .before .before .fits .key)) (c .answer-of .ensures)
+returns-2 c = condition-answered _ _ _ _ (admitted-lent (c .before .before .before .before .before .before .before .before .before .before .before .before .before .before .before .before .before .before .is-range .ensures) (c .before .before .before .before .before .before .before .before .before .before .before .before .before .before .before .before .before .admit .ensures) (c .before .before .before .before .before .before .before .before .before .before .before .before .before .before .before .if1 .left)) (c .before .before .before .before .before .before .before .before .from-comparison .ensures) (same-comparison _ (c .before .before .before .before .before .before .before .before .before .before .before .before .before .before .before .before .before .before .before .before .before .before .before .before .before .before .args .op) (c .before .before .before .before .before .before .before .before .before .before .before .before .before .before .before .before .before .before .before .before .before .before .before .before .before .before .args .key) (c .before .before .before .before .before .before .before .before .before .wide .ensures .0) (c .before .before .before .before .before .before .before .before .before .before .before .before .before .before .before .before .before .before .before .before .before .before .before .before .before .before .fits .key)) (c .answer-of .ensures)
 
 pub from-comparison-spec : {M : Type 1} → statement M
 from-comparison-spec =

@@ -1,19 +1,23 @@
 -- `joins_calls::and` has the one outcome that its contract allows. Assumes nothing.
-use mathlib.Core.Path.{refl}
+use mathlib.Core.Path.{refl, _∙_}
+use Rattle.walks.proofs.Finished.{ready-zeroed}
 use Rattle.kernel.proofs.Deciding.{asks-none}
-use Rattle.kernel.proofs.ByIds.{ids-lent, ids-refused, ids-answered}
+use Rattle.kernel.proofs.ByIds.{ids-lent, cleared-long, cleared, ids-refused, ids-answered}
 use borrow.Author.Needs.{needs}
 use Rattle.kernel.proofs.joins_calls.and.Statement.{statement}
 use Rattle.kernel.proofs.joins_calls.and.Tie as tie
 
 returns : tie.Need-returns
-returns c = ids-refused _ _ _ _ _ _ _ _ _ _ (λ u k. k) (λ u k. k) asks-none (c .before .before .before .admit-ids .ensures) (c .before .if1 .taken) (c .refused .ensures)
+returns c = ids-refused _ _ _ _ _ _ _ _ (λ u k. k) (λ u k. k) asks-none (c .before .before .before .admit-ids .ensures) (c .before .if1 .taken) (c .refused .ensures)
 
 and-requires : tie.Need-and-requires
-and-requires c κs = let l = ids-lent asks-none (c .before .before .before .before .before .before .before .before .admit-ids .ensures) (c .before .before .before .before .before .before .if1 .left) in (l .0, l .1, l .2 .0, l .2 .1)
+and-requires c κs =
+    let l = ids-lent asks-none (c .before .before .before .before .before .before .before .before .before .before .before .before .admit-ids .ensures) (c .before .before .before .before .before .before .before .before .before .before .if1 .left) in
+    let m = c .before .before .before .before .before .before .before .before .before .before .before .before .before .before .before .before .before .before .before .before .before .args .memo .now in
+    (ready-zeroed (l .0) (cleared-long m (c .before .before .before .before .before .before .before .zero-words .ensures) ∙ l .1) (cleared m (c .before .before .before .before .before .before .before .zero-words .ensures)), l .2 .0, l .2 .1)
 
 returns-2 : tie.Need-returns-2
-returns-2 c = ids-answered _ _ _ _ _ _ _ _ _ _ (λ u k. k) (λ u k. k) asks-none (c .before .before .before .before .before .before .before .before .before .before .before .before .before .before .before .before .before .before .before .admit-ids .ensures) (c .before .before .before .before .before .before .before .before .before .before .before .before .before .before .before .before .before .if1 .left) (c .before .before .before .before .before .before .before .before .before .before .and .ensures) refl (c .answer-of .ensures)
+returns-2 c = ids-answered _ _ _ _ _ _ _ _ (λ u k. k) (λ u k. k) asks-none (c .before .before .before .before .before .before .before .before .before .before .before .before .before .before .before .before .before .before .before .before .before .before .before .before .before .before .before .admit-ids .ensures) (c .before .before .before .before .before .before .before .before .before .before .before .before .before .before .before .before .before .before .before .before .before .before .before .before .before .if1 .left) (c .before .before .before .before .before .before .before .before .before .before .before .before .before .before .before .before .before .before .before .before .before .before .zero-words .ensures) (c .before .before .before .before .before .before .before .before .before .before .before .before .before .before .and .ensures .worked) (c .before .before .before .zero-words2 .ensures) refl (c .answer-of .ensures)
 
 pub and-spec : {M : Type 1} → statement M
 and-spec =
@@ -26,7 +30,9 @@ and-spec =
     (λ c. search needs)
     (λ c. search needs)
     returns
+    (λ c κs. search needs)
     and-requires
+    (λ c κs. search needs)
     (λ c κs. search needs)
     (λ c. search needs)
     (λ c. search needs)
