@@ -16,9 +16,9 @@ use Rattle.algebra.specs.Overlay.{above, overlay}
 use Rattle.algebra.specs.Conditions.{between}
 use Rattle.algebra.specs.Changing.{change, fixed, cutAbove, narrowed, keep, widened}
 use Rattle.algebra.proofs.Overlays.{select-above, rising-above, each-above, select-overlay, rising-overlay, each-overlay}
-use Rattle.algebra.proofs.Made.{Made, remean}
+use Rattle.algebra.proofs.Made.{Made, made-same-meaning}
 use Rattle.algebra.proofs.Conditioning.{rising-between, each-any}
-use Rattle.algebra.proofs.Descending.{bottom, bottom-rising, bottom-at, bottom-here, Changes, changed}
+use Rattle.algebra.proofs.Descending.{bottom, bottom-rising, bottom-at, bottom-here, Changes, change-makes-meaning}
 
 -- restriction is a change
 pub fixed-changes : (v p : ℕ) → Changes v (fixed p)
@@ -32,7 +32,7 @@ module _ (t : Table) (z : Sound t) (v : ℕ) (hv : v < variables) (id : ℕ) (k 
   moved : (g : Pieces ℕ → Pieces ℕ) → Changes v g → (c : ℕ → ℕ) → ((e : Pieces ℕ) → Rising 0 (topOf v) e → (p : ℕ) → select (g e) p ≡ select e (c p))
       → Made t 0 (λ α. value t (upd α v (c (α v))) id) (change variables g t v id)
   moved g ch c h =
-      remean (changed v hv g ch variables t z 0 id (omega arith) whole (omega arith))
+      made-same-meaning (change-makes-meaning v hv g ch variables t z 0 id (omega arith) whole (omega arith))
       (λ α. ap (value t α) (h (bottom variables t z v hv 0 id whole (omega arith) α) (bottom-rising variables t z v hv 0 id whole (omega arith) α) (α v))
       ∙ bottom-at variables t z v hv 0 id whole (omega arith) α (c (α v)))
 
@@ -119,5 +119,5 @@ module _ (v lo hi : ℕ) (l : lo ≤ topOf v) (hv : v < variables) where
   pub widened-made : (t : Table) → Sound t → (id : ℕ) → Known t id → Made t 0 (λ α. value t α id && select (between lo hi (topOf v)) (α v)) (change variables (widened lo hi (topOf v)) t v id)
   widened-made t z id k =
       let w : Child t 0 id = (k, omega arith) in
-      remean (changed v hv (widened lo hi (topOf v)) widened-changes variables t z 0 id (omega arith) w (omega arith))
+      made-same-meaning (change-makes-meaning v hv (widened lo hi (topOf v)) widened-changes variables t z 0 id (omega arith) w (omega arith))
       (λ α. value-widened t α (bottom variables t z v hv 0 id w (omega arith) α) (α v) ∙ ap (λ (b : Bool). b && select range (α v)) (bottom-here variables t z v hv 0 id w (omega arith) α))

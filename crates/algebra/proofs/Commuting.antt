@@ -13,14 +13,14 @@ use Rattle.diagram.specs.Pieces.{Pieces, last, cut, count, Each, Rising}
 use Rattle.diagram.specs.Table.{variables, isRange, topOf, Table, at, Assignment}
 use Rattle.diagram.specs.Cofactor.{map, edgesOf}
 use Rattle.diagram.specs.Sound.{Known, Child, Sound, Continues, same}
-use Rattle.diagram.proofs.Facts.{facts}
+use Rattle.diagram.proofs.Facts.{facts-at}
 use Rattle.diagram.proofs.Continuing.{continues-child, continues-trans}
-use Rattle.diagram.proofs.Cofactors.{edges-of, edges-rising}
+use Rattle.diagram.proofs.Cofactors.{edges-are-kids, edges-rising}
 use Rattle.algebra.specs.Overlay.{below, beside, above, overlay}
 use Rattle.algebra.specs.Conjunction.{walk, walkBack, walkIn, create-over, pick, opening, conj-node, conj-step, conj, and}
 use Rattle.algebra.proofs.Overlays.{each-overlay}
 use Rattle.algebra.proofs.Made.{Made}
-use Rattle.algebra.proofs.Conjoining.{opening-none, conjoined}
+use Rattle.algebra.proofs.Conjoining.{neither-is-terminal, conj-says-both}
 
 abbrev swap : {A B : Type 0} → A × B → B × A
 swap p = (p .1, p .0)
@@ -167,7 +167,7 @@ module _ (t : Table) (z : Sound t) (f : Table → ℕ × ℕ → Table × ℕ) (
       ap (walkIn low-first f t) (overlay-swap (count ex + count ey) 0 (topOf v) ex ey (omega arith) (edges-rising t z v x hv kx) (edges-rising t z v y hv ky))
       ∙ walkIn-map f swap low-first t (overlay ex ey)
       ∙ walkIn-agree f (λ s p. f s (swap p)) t (λ p. Child t (suc v) (p .0) × Child t (suc v) (p .1)) keeps agree low-first t z same (overlay ex ey)
-      (each-overlay (Child t (suc v)) (Child t (suc v)) ex ey (edges-of t z v x hv kx .kids) (edges-of t z v y hv ky .kids))
+      (each-overlay (Child t (suc v)) (Child t (suc v)) ex ey (edges-are-kids t z v x hv kx .kids) (edges-are-kids t z v y hv ky .kids))
 
 commute : (n : ℕ) (t : Table) → Sound t → (u x y : ℕ) → Child t u x → Child t u y → variables < u + n → conj n t y x ≡ conj n t x y
 unfolding conj conj-step conj-node
@@ -191,13 +191,13 @@ commute (suc n) t z u x y kx ky h = ap (conj-step f t y x) (opening-comm y x) �
         → conj-step f t y x o ≡ conj-step f t x y o
     go (some c) q rec = refl
     go none q rec =
-        let i = opening-none x y q in
-        let fx = facts t z (ref x) (omega arith) (kx .0) in
+        let i = neither-is-terminal x y q in
+        let fx = facts-at t z (ref x) (omega arith) (kx .0) in
         let turned : min b a ≡ min a b = omega arith in
         let later : variables < suc v + n = omega (arith, h, kx .1, ky .1) in
         ap₂ (λ (w : ℕ) (e : Bool). create-over w (walkIn (not (isRange w) && not e) f t (overlay (edgesOf t w y) (edgesOf t w x)))) turned (eqb-comm b a)
         ∙ ap (create-over v) (commute-at t z f v x y (omega (arith, fx .known)) (kx .0, omega arith) (ky .0, omega arith)
-        (λ s zs c p k. keeps s zs (conjoined n s zs (suc v) (p .0) (p .1) (continues-child c (suc v) (p .0) (k .0)) (continues-child c (suc v) (p .1) (k .1)) later))
+        (λ s zs c p k. keeps s zs (conj-says-both n s zs (suc v) (p .0) (p .1) (continues-child c (suc v) (p .0) (k .0)) (continues-child c (suc v) (p .1) (k .1)) later))
         (λ s zs c p k. rec s zs v p (continues-child c (suc v) (p .0) (k .0)) (continues-child c (suc v) (p .1) (k .1)) later) (not (isRange v) && not (eqb a b)))
       where
         keeps : (s : Table) → Sound s → {w : ℕ} {m : Assignment → Bool} {out : Table × ℕ} → Made s w m out → Sound (out .0) × Continues s (out .0)

@@ -21,7 +21,7 @@ use Rattle.diagram.proofs.Piecewise.{select-left, select-right}
 use Rattle.diagram.proofs.Cofactors.{select-map, rising-map, each-map}
 use Rattle.algebra.specs.Making.{create-node}
 use Rattle.algebra.specs.Conditions.{upTo, between, terminal, from-range, comparison, from-bool}
-use Rattle.algebra.proofs.Made.{Made, remean}
+use Rattle.algebra.proofs.Made.{Made, made-same-meaning}
 use Rattle.algebra.proofs.Making.{created}
 use Rattle.algebra.proofs.Conjoining.{flip-made}
 
@@ -82,7 +82,7 @@ each-any (cut a k e) = (tt, each-any e)
 -- a condition on one variable: the terminal for each position
 condition-made : (t : Table) → Sound t → (v : ℕ) → v < variables → (e : Pieces Bool) → Rising 0 (topOf v) e → Made t v (λ α. select e (α v)) (create-node t v (map terminal e))
 condition-made t z v hv e rise =
-    remean (created t z v hv (map terminal e) (rising-map terminal 0 (topOf v) e rise) (each-map terminal (λ b. Unit {0}) (Child t (suc v)) (λ b x. child-terminal t (suc v) hv b) e (each-any e)) .made)
+    made-same-meaning (created t z v hv (map terminal e) (rising-map terminal 0 (topOf v) e rise) (each-map terminal (λ b. Unit {0}) (Child t (suc v)) (λ b x. child-terminal t (suc v) hv b) e (each-any e)) .made)
     (λ α. ap (value t α) (select-map terminal e (α v)) ∙ value-terminal t α (select e (α v)))
 
 pub from-range-made : (t : Table) → Sound t → (v : ℕ) → v < variables → (lower upper : Bound) → position (firstPlace lower) ≤ topOf v
@@ -97,7 +97,7 @@ unfolding comparison
 comparison-made t z v hv op key l m h = go (outsideOf op)
   where
     x : Made t v m (from-range t v (lowerOf op key) (upperOf op key))
-    x = remean (from-range-made t z v hv (lowerOf op key) (upperOf op key) l) h
+    x = made-same-meaning (from-range-made t z v hv (lowerOf op key) (upperOf op key) l) h
 
     go : (b : Bool) → Made t v (λ α. cond b (not (m α)) (m α)) ((from-range t v (lowerOf op key) (upperOf op key)) .0, cond b (flip ((from-range t v (lowerOf op key) (upperOf op key)) .1)) ((from-range t v (lowerOf op key) (upperOf op key)) .1))
     go true = flip-made x
@@ -105,7 +105,7 @@ comparison-made t z v hv op key l m h = go (outsideOf op)
 
 pub from-bool-made : (t : Table) → Sound t → (v : ℕ) → v < variables → Made t v (λ α. ltb (α v) 1) (from-bool t v)
 unfolding from-bool map
-from-bool-made t z v hv = remean (condition-made t z v hv (cut true 1 (last false)) (one (isRange v))) (λ α. yes-below (ltb (α v) 1))
+from-bool-made t z v hv = made-same-meaning (condition-made t z v hv (cut true 1 (last false)) (one (isRange v))) (λ α. yes-below (ltb (α v) 1))
   where
     one : (b : Bool) → (0 < 1) × (1 ≤ cond b top 1) × (1 ≤ cond b top 1)
     one true = (omega arith, omega arith, omega arith)

@@ -13,14 +13,14 @@ use Rattle.diagram.specs.Table.{variables, isRange, topOf, Table, at, Assignmen
 use Rattle.diagram.specs.Cofactor.{edgesOf}
 use Rattle.diagram.specs.Sound.{Known, Child, Sound, Continues}
 use Rattle.diagram.proofs.Lookup.{at-end, value-true, value-false, value-flip}
-use Rattle.diagram.proofs.Facts.{facts, var-most}
+use Rattle.diagram.proofs.Facts.{facts-at, var-most}
 use Rattle.diagram.proofs.Continuing.{continues-value, continues-child}
-use Rattle.diagram.proofs.Cofactors.{edges-of, edges-rising}
+use Rattle.diagram.proofs.Cofactors.{edges-are-kids, edges-rising}
 use Rattle.diagram.proofs.Either.{either-true}
 use Rattle.algebra.specs.Overlay.{overlay}
 use Rattle.algebra.specs.Conjunction.{walkIn, create-over, pick, opening, conj-node, conj-step, conj, and, or}
 use Rattle.algebra.proofs.Overlays.{select-overlay, rising-overlay, each-overlay}
-use Rattle.algebra.proofs.Made.{Made, unchanged, remean, weaken}
+use Rattle.algebra.proofs.Made.{Made, unchanged, made-same-meaning, weaken}
 use Rattle.algebra.proofs.Walking.{created-over}
 
 -- one is FALSE, or they are opposite
@@ -59,9 +59,9 @@ opened t z u x y c hu kx ky = go (eqb x 0) refl (eqb y 0) refl (eqb x y) refl (e
     go false ea false eb false ed false ew q = absurd (Option·none-ne-some c q)
 
 -- where there is no opening answer, both are nodes
-pub opening-none : (x y : ℕ) → opening x y ≡ none → (2 ≤ x) × (2 ≤ y)
+pub neither-is-terminal : (x y : ℕ) → opening x y ≡ none → (2 ≤ x) × (2 ≤ y)
 unfolding opening
-opening-none x y = go (eqb x 0) refl (eqb y 0) refl (eqb x y) refl (eqb x 1) refl (eqb y 1) refl
+neither-is-terminal x y = go (eqb x 0) refl (eqb y 0) refl (eqb x y) refl (eqb x 1) refl (eqb y 1) refl
   where
     go : (a : Bool) → eqb x 0 ≡ a → (b : Bool) → eqb y 0 ≡ b → (d : Bool) → eqb x y ≡ d → (v : Bool) → eqb x 1 ≡ v → (w : Bool) → eqb y 1 ≡ w → pick a b d (v || (w || eqb (flip x) y)) x y ≡ none → (2 ≤ x) × (2 ≤ y)
     go true ea b eb d ed v ev w ew q = absurd (Option·some-ne-none y q)
@@ -76,18 +76,18 @@ module _ (t : Table) (z : Sound t) (f : Table → ℕ × ℕ → Table × ℕ) (
     (ok : (s : Table) → Sound s → Continues t s → (p : ℕ × ℕ) → Child t (suc v) (p .0) × Child t (suc v) (p .1) → Made s (suc v) (λ α. value t α (p .0) && value t α (p .1)) (f s p)) where
   both-at : (low-first : Bool) → Made t v (λ α. value t α x && value t α y) (create-over v (walkIn low-first f t (overlay (edgesOf t v x) (edgesOf t v y))))
   both-at low-first =
-      let ex = edges-of t z v x hv kx in
-      let ey = edges-of t z v y hv ky in
+      let ex = edges-are-kids t z v x hv kx in
+      let ey = edges-are-kids t z v y hv ky in
       let m : ℕ × ℕ → Assignment → Bool = λ p α. value t α (p .0) && value t α (p .1) in
-      remean (created-over t z f v hv (λ p. Child t (suc v) (p .0) × Child t (suc v) (p .1)) m ok (overlay (edgesOf t v x) (edgesOf t v y))
+      made-same-meaning (created-over t z f v hv (λ p. Child t (suc v) (p .0) × Child t (suc v) (p .1)) m ok (overlay (edgesOf t v x) (edgesOf t v y))
       (rising-overlay 0 (topOf v) (edgesOf t v x) (edgesOf t v y) (edges-rising t z v x hv kx) (edges-rising t z v y hv ky))
       (each-overlay (Child t (suc v)) (Child t (suc v)) (edgesOf t v x) (edgesOf t v y) (ex .kids) (ey .kids)) low-first)
       (λ α. ap (λ (p : ℕ × ℕ). m p α) (select-overlay (edgesOf t v x) (edgesOf t v y) (α v)) ∙ sym (ap₂ _&&_ (ex .value-is α) (ey .value-is α)))
 
-pub conjoined : (n : ℕ) (t : Table) → Sound t → (u x y : ℕ) → Child t u x → Child t u y → variables < u + n → Made t u (λ α. value t α x && value t α y) (conj n t x y)
+pub conj-says-both : (n : ℕ) (t : Table) → Sound t → (u x y : ℕ) → Child t u x → Child t u y → variables < u + n → Made t u (λ α. value t α x && value t α y) (conj n t x y)
 unfolding conj conj-step conj-node
-conjoined zero t z u x y kx ky h = absurd (omega (arith, var-most t z (ref x) (kx .0), kx .1))
-conjoined (suc n) t z u x y kx ky h = go (opening x y) refl (λ s zs v p k l. conjoined n s zs (suc v) (p .0) (p .1) k l)
+conj-says-both zero t z u x y kx ky h = absurd (omega (arith, var-most t z (ref x) (kx .0), kx .1))
+conj-says-both (suc n) t z u x y kx ky h = go (opening x y) refl (λ s zs v p k l. conj-says-both n s zs (suc v) (p .0) (p .1) k l)
   where
     f : Table → ℕ × ℕ → Table × ℕ
     f s p = conj n s (p .0) (p .1)
@@ -97,19 +97,19 @@ conjoined (suc n) t z u x y kx ky h = go (opening x y) refl (λ s zs v p k l. co
         → Made t u (λ α. value t α x && value t α y) (conj-step f t x y o)
     go (some c) q rec = opened t z u x y c (omega (arith, var-most t z (ref x) (kx .0), kx .1)) kx ky q
     go none q rec =
-        let i = opening-none x y q in
+        let i = neither-is-terminal x y q in
         let a = (at t (ref x)) .var in
         let b = (at t (ref y)) .var in
-        let fx = facts t z (ref x) (omega arith) (kx .0) in
+        let fx = facts-at t z (ref x) (omega arith) (kx .0) in
         weaken t u (min a b) _ _ (omega (arith, kx .1, ky .1))
         (both-at t z f (min a b) x y (omega (arith, fx .known)) (kx .0, omega arith) (ky .0, omega arith)
-        (λ s zs g p k. remean (rec s zs (min a b) p (continues-child g (suc (min a b)) (p .0) (k .0)) (continues-child g (suc (min a b)) (p .1) (k .1)) (omega (arith, h, kx .1, ky .1)))
+        (λ s zs g p k. made-same-meaning (rec s zs (min a b) p (continues-child g (suc (min a b)) (p .0) (k .0)) (continues-child g (suc (min a b)) (p .1) (k .1)) (omega (arith, h, kx .1, ky .1)))
         (λ α. ap₂ _&&_ (continues-value g α (p .0) (k .0 .0)) (continues-value g α (p .1) (k .1 .0))))
         (not (isRange (min a b)) && not (eqb a b)))
 
 module _ (t : Table) (z : Sound t) (x y : ℕ) (kx : Known t x) (ky : Known t y) where
   pub and-made : Made t 0 (λ α. value t α x && value t α y) (and t x y)
-  and-made = conjoined (suc variables) t z 0 x y (kx, omega arith) (ky, omega arith) (omega arith)
+  and-made = conj-says-both (suc variables) t z 0 x y (kx, omega arith) (ky, omega arith) (omega arith)
 
 -- an answer negated, for no more nodes
 pub flip-made : {t : Table} {u : ℕ} {m : Assignment → Bool} {out : Table × ℕ} → Made t u m out → Made t u (λ α. not (m α)) (out .0, flip (out .1))
@@ -129,5 +129,5 @@ de-morgan false false = refl
 pub or-made : (t : Table) → Sound t → (x y : ℕ) → Known t x → Known t y → Made t 0 (λ α. value t α x || value t α y) (or t x y)
 unfolding or
 or-made t z x y kx ky =
-    remean (flip-made (and-made t z (flip x) (flip y) (rw (ref-flip x) kx) (rw (ref-flip y) ky)))
+    made-same-meaning (flip-made (and-made t z (flip x) (flip y) (rw (ref-flip x) kx) (rw (ref-flip y) ky)))
     (λ α. rw (value-flip t α x, value-flip t α y) (de-morgan (value t α x) (value t α y)))

@@ -12,10 +12,10 @@ use Rattle.diagram.specs.Cofactor.{edgesOf, upd}
 use Rattle.diagram.specs.Sound.{Known, Child, Sound, Continues}
 use Rattle.diagram.proofs.Piecewise.{each-select}
 use Rattle.diagram.proofs.Continuing.{continues-at, continues-value, continues-child}
-use Rattle.diagram.proofs.Cofactors.{edges-of, edges-rising, edge-child, value-edge, upd-other, continues-edges}
+use Rattle.diagram.proofs.Cofactors.{edges-are-kids, edges-rising, edge-child, value-edge, upd-other, continues-edges}
 use Rattle.algebra.specs.Making.{create-node}
 use Rattle.algebra.specs.Changing.{isBefore, change-step, change}
-use Rattle.algebra.proofs.Made.{Made, remean, weaken}
+use Rattle.algebra.proofs.Made.{Made, made-same-meaning, weaken}
 use Rattle.algebra.proofs.Making.{created}
 use Rattle.algebra.proofs.Walking.{created-over}
 
@@ -71,7 +71,7 @@ descend-value (suc n) t z v hv α β a id k = go (isBefore t v id) refl (descend
     go : (b : Bool) → isBefore t v id ≡ b → (Known t c → value t β (descend n t v α c) ≡ value t β c) → value t β (cond b (descend n t v α c) id) ≡ value t β id
     go true e rec =
         let hu : u < variables = omega (arith, before-yes t v id e) in
-        rec (edge-child t z u id hu (k, omega arith) (α u) .0) ∙ ap (λ (p : ℕ). value t β (select (edgesOf t u id) p)) (sym (a u (before-yes t v id e))) ∙ sym (edges-of t z u id hu (k, omega arith) .value-is β)
+        rec (edge-child t z u id hu (k, omega arith) (α u) .0) ∙ ap (λ (p : ℕ). value t β (select (edgesOf t u id) p)) (sym (a u (before-yes t v id e))) ∙ sym (edges-are-kids t z u id hu (k, omega arith) .value-is β)
     go false e rec = refl
 
 -- and is the same in a table that continues this one
@@ -102,13 +102,13 @@ module _ (n : ℕ) (t : Table) (z : Sound t) (v : ℕ) (hv : v < variables) (w i
   bottom-rising = edges-rising t z v (descend n t v α id) hv bottom-child
 
   pub bottom-kids : Each (Child t (suc v)) bottom
-  bottom-kids = edges-of t z v (descend n t v α id) hv bottom-child .kids
+  bottom-kids = edges-are-kids t z v (descend n t v α id) hv bottom-child .kids
 
   pub bottom-at : (p : ℕ) → value t α (select bottom p) ≡ value t (upd α v p) id
   bottom-at p = sym (value-edge t z v (descend n t v α id) hv bottom-child α p) ∙ descend-value n t z v hv α (upd α v p) (λ i l. upd-other α v p i (omega arith)) id (k .0)
 
   pub bottom-here : value t α (select bottom (α v)) ≡ value t α id
-  bottom-here = sym (edges-of t z v (descend n t v α id) hv bottom-child .value-is α) ∙ descend-value n t z v hv α α (λ i l. refl) id (k .0)
+  bottom-here = sym (edges-are-kids t z v (descend n t v α id) hv bottom-child .value-is α) ∙ descend-value n t z v hv α α (λ i l. refl) id (k .0)
 
 -- the change by any g that keeps cuts rising and children later than v
 pub record Changes (v : ℕ) (g : Pieces ℕ → Pieces ℕ) : Type 0 where
@@ -126,16 +126,16 @@ module _ (v : ℕ) (hv : v < variables) (g : Pieces ℕ → Pieces ℕ) (ch : Ch
       let d = descend n t v α id in
       let kd = descend-child n t z v hv α w id k h in
       ap (λ (i : ℕ). value s α (select (g (edgesOf s v i)) (α v))) (continues-descend n z c v hv α id (k .0)) ∙ ap (λ (e : Pieces ℕ). value s α (select (g e) (α v))) (continues-edges c v d (kd .0))
-      ∙ continues-value c α (select (g (edgesOf t v d)) (α v)) (each-select (Child t (suc v)) (g (edgesOf t v d)) (ch .kids t (edgesOf t v d) (edges-of t z v d hv kd .kids)) (α v) .0)
+      ∙ continues-value c α (select (g (edgesOf t v d)) (α v)) (each-select (Child t (suc v)) (g (edgesOf t v d)) (ch .kids t (edgesOf t v d) (edges-are-kids t z v d hv kd .kids)) (α v) .0)
 
   here-made : (t : Table) → Sound t → (id : ℕ) → Child t v id → Made t v (λ α. value t α (select (g (edgesOf t v id)) (α v))) (create-node t v (g (edgesOf t v id)))
   here-made t z id k =
-      created t z v hv (g (edgesOf t v id)) (ch .rising (edgesOf t v id) (edges-rising t z v id hv k)) (ch .kids t (edgesOf t v id) (edges-of t z v id hv k .kids)) .made
+      created t z v hv (g (edgesOf t v id)) (ch .rising (edgesOf t v id) (edges-rising t z v id hv k)) (ch .kids t (edgesOf t v id) (edges-are-kids t z v id hv k .kids)) .made
 
-  pub changed : (n : ℕ) (t : Table) → Sound t → (w id : ℕ) → w ≤ v → Child t w id → v ≤ w + n → Made t w (means n t id) (change n g t v id)
+  pub change-makes-meaning : (n : ℕ) (t : Table) → Sound t → (w id : ℕ) → w ≤ v → Child t w id → v ≤ w + n → Made t w (means n t id) (change n g t v id)
   unfolding change change-step descend
-  changed zero t z w id l k h = weaken t w v _ _ l (here-made t z id (k .0, omega (arith, k .1)))
-  changed (suc n) t z w id l k h = go (isBefore t v id) refl (λ s y i q. changed n s y (suc u) i q)
+  change-makes-meaning zero t z w id l k h = weaken t w v _ _ l (here-made t z id (k .0, omega (arith, k .1)))
+  change-makes-meaning (suc n) t z w id l k h = go (isBefore t v id) refl (λ s y i q. change-makes-meaning n s y (suc u) i q)
     where
       u : ℕ
       u = (at t (ref id)) .var
@@ -149,6 +149,6 @@ module _ (v : ℕ) (hv : v < variables) (g : Pieces ℕ → Pieces ℕ) (ch : Ch
           let lt : u < v = before-yes t v id x in
           let ku : Child t u id = (k .0, omega arith) in
           weaken t w u _ _ (k .1) (created-over t z f u (omega arith) (Child t (suc u)) (means n t)
-          (λ s zs c i q. remean (rec s zs i lt (continues-child c (suc u) i q) (omega (arith, k .1))) (means-continues n z c (suc u) i q (omega (arith, k .1))))
-          (edgesOf t u id) (edges-rising t z u id (omega arith) ku) (edges-of t z u id (omega arith) ku .kids) (not (isRange u)))
+          (λ s zs c i q. made-same-meaning (rec s zs i lt (continues-child c (suc u) i q) (omega (arith, k .1))) (means-continues n z c (suc u) i q (omega (arith, k .1))))
+          (edgesOf t u id) (edges-rising t z u id (omega arith) ku) (edges-are-kids t z u id (omega arith) ku .kids) (not (isRange u)))
       go false x rec = weaken t w v _ _ l (here-made t z id (k .0, before-no t v id x))

@@ -14,9 +14,9 @@ use Rattle.diagram.specs.Sound.{Known, Child, Sound}
 use Rattle.diagram.specs.Reading.{Within}
 use Rattle.diagram.proofs.Lookup.{value-true, value-false}
 use Rattle.diagram.proofs.Piecewise.{select-left, select-right}
-use Rattle.diagram.proofs.Facts.{facts, var-most}
-use Rattle.diagram.proofs.Cofactors.{edges-of, edges-rising, edge-child, value-edge, upd-within}
-use Rattle.diagram.proofs.Apart.{apart}
+use Rattle.diagram.proofs.Facts.{facts-at, var-most}
+use Rattle.diagram.proofs.Cofactors.{edges-are-kids, edges-rising, edge-child, value-edge, upd-within}
+use Rattle.diagram.proofs.Apart.{distinct-ids-apart}
 use Rattle.diagram.proofs.Either.{either-true, neither-true}
 use Rattle.algebra.specs.Overlay.{overlay}
 use Rattle.algebra.specs.Disjointness.{every, disjoint-step, disjoint, is-disjoint}
@@ -75,7 +75,7 @@ answer-no (meet b) e = b
 -- an id that is not FALSE is true somewhere
 holds-somewhere : (t : Table) → Sound t → (x : ℕ) → Known t x → (x ≡ 1 → ⊥) → Both t x x
 holds-somewhere t z x h n =
-    let i = apart t z x 1 h (omega arith) n in
+    let i = distinct-ids-apart t z x 1 h (omega arith) n in
     let e = is-true (value t (i .assigned) x) (λ q. i .apart (q ∙ sym (value-false t (i .assigned) 1 refl))) in
     record { assigned = i .assigned; within = i .within; left = e; right = e }
   where
@@ -119,7 +119,7 @@ module _ (t : Table) (z : Sound t) (v x y : ℕ) (hv : v < variables) (kx : Chil
 
   every-answer : (q : Bool) → every test (overlay ex ey) ≡ q → Answer t x y q
   every-answer true e = never (λ α.
-      ap₂ _&&_ (edges-of t z v x hv kx .value-is α) (edges-of t z v y hv ky .value-is α) ∙ answer-yes (at-position (α v)) (sym (test-at (α v)) ∙ every-at test (overlay ex ey) e (α v)) α)
+      ap₂ _&&_ (edges-are-kids t z v x hv kx .value-is α) (edges-are-kids t z v y hv ky .value-is α) ∙ answer-yes (at-position (α v)) (sym (test-at (α v)) ∙ every-at test (overlay ex ey) e (α v)) α)
   every-answer false e =
       let w = every-fails test 0 (topOf v) (overlay ex ey) (rising-overlay 0 (topOf v) ex ey (edges-rising t z v x hv kx) (edges-rising t z v y hv ky)) e in
       let p = w .spot in
@@ -155,7 +155,7 @@ answered (suc n) t z u x y kx ky h = go (eqb x 1 || (eqb y 1 || eqb (flip x) y))
     go false ea false eb rec =
         let i = neither-true (eqb x 1) (eqb y 1 || eqb (flip x) y) ea in
         let j = neither-true (eqb x 0) (eqb y 0 || eqb x y) eb in
-        let fx = facts t z (ref x) (omega (arith, eqb-false x 1 (i .0), eqb-false x 0 (j .0))) (kx .0) in
+        let fx = facts-at t z (ref x) (omega (arith, eqb-false x 1 (i .0), eqb-false x 0 (j .0))) (kx .0) in
         every-answer t z v x y (omega (arith, fx .known)) (kx .0, omega arith) (ky .0, omega arith) (disjoint n t) (λ c d k l. rec c d k l (omega (arith, h, kx .1, ky .1))) (every f pairs) refl
 
 pub disjoint-answer : (t : Table) → Sound t → (x y : ℕ) → Known t x → Known t y → Answer t x y (is-disjoint t x y)

@@ -16,16 +16,16 @@ use Rattle.diagram.specs.Cofactor.{edgesOf, upd}
 use Rattle.diagram.specs.Sound.{Known, Child, Sound}
 use Rattle.diagram.specs.Reading.{Reading, positions, says, Within}
 use Rattle.diagram.proofs.Lookup.{at-end, value-false}
-use Rattle.diagram.proofs.Piecewise.{count-pos, each-select, Two, two}
+use Rattle.diagram.proofs.Piecewise.{count-pos, each-select, Two, two-told-apart}
 use Rattle.diagram.proofs.Facts.{value-agree}
-use Rattle.diagram.proofs.Cofactors.{Kids, edges-of, upd-same, upd-later, upd-within}
-use Rattle.diagram.proofs.Apart.{Apart, apart}
+use Rattle.diagram.proofs.Cofactors.{Kids, edges-are-kids, upd-same, upd-later, upd-within}
+use Rattle.diagram.proofs.Apart.{Apart, distinct-ids-apart}
 use Rattle.diagram.proofs.Readings.{positions-within, reading, place-reading, holds-reading, positions-reading}
 use Rattle.algebra.specs.Changing.{change, emptied}
 use Rattle.algebra.specs.Answering.{Answers}
 use Rattle.algebra.specs.Emptying.{SameBefore, SameAfter, StillChanges, Steady, EmptyAnswer}
-use Rattle.algebra.proofs.Made.{answers}
-use Rattle.algebra.proofs.Descending.{descend, Before, descend-value, bottom-child, Changes, changed}
+use Rattle.algebra.proofs.Made.{made-answers}
+use Rattle.algebra.proofs.Descending.{descend, Before, descend-value, bottom-child, Changes, change-makes-meaning}
 
 pub emptied-changes : (v : ℕ) → v < variables → Changes v emptied
 emptied-changes v hv = record { rising = rises; kids = stay }
@@ -123,13 +123,13 @@ module _ (t : Table) (z : Sound t) (v : ℕ) (hv : v < firstBoolean) (id : ℕ) 
       α = positions ρ
 
       y : Two (topOf v) (cut c q e)
-      y = two (topOf v) (cut c q e) (x .reduced) (omega (arith, count-pos e))
+      y = two-told-apart (topOf v) (cut c q e) (x .reduced) (omega (arith, count-pos e))
 
       child : (p : ℕ) → Child t (suc v) (select (cut c q e) p)
       child p = each-select (Child t (suc v)) (cut c q e) (x .kids) p
 
       a : Apart t (select (cut c q e) (y .p)) (select (cut c q e) (y .q))
-      a = apart t z (select (cut c q e) (y .p)) (select (cut c q e) (y .q)) (child (y .p) .0) (child (y .q) .0) (y .apart)
+      a = distinct-ids-apart t z (select (cut c q e) (y .p)) (select (cut c q e) (y .q)) (child (y .p) .0) (child (y .q) .0) (y .apart)
 
       β : Assignment
       β = a .assigned
@@ -144,7 +144,7 @@ module _ (t : Table) (z : Sound t) (v : ℕ) (hv : v < firstBoolean) (id : ℕ) 
 
   -- under every reading it is one or the other,
   pub steady-or-changing : (ρ : Reading) → Steady t v ρ id ⊎ StillChanges t v ρ id
-  steady-or-changing ρ = go (edgesOf t v (standing ρ)) (edges-of t z v (standing ρ) known (stands ρ))
+  steady-or-changing ρ = go (edgesOf t v (standing ρ)) (edges-are-kids t z v (standing ρ) known (stands ρ))
     where
       go : (e : Pieces ℕ) → Kids t v (standing ρ) e → Steady t v ρ id ⊎ StillChanges t v ρ id
       go (last c) x = inl (steady ρ c x)
@@ -157,5 +157,5 @@ module _ (t : Table) (z : Sound t) (v : ℕ) (hv : v < firstBoolean) (id : ℕ) 
 
   pub emptied-answers : (m : Reading → Bool) → EmptyAnswer t v id m → Answers t m (change variables emptied t v id)
   emptied-answers m h =
-      answers (changed v known emptied (emptied-changes v known) variables t z 0 id (omega arith) whole (omega arith)) m
-      (λ ρ. said-right m h ρ (edgesOf t v (standing ρ)) (edges-of t z v (standing ρ) known (stands ρ)))
+      made-answers (change-makes-meaning v known emptied (emptied-changes v known) variables t z 0 id (omega arith) whole (omega arith)) m
+      (λ ρ. said-right m h ρ (edgesOf t v (standing ρ)) (edges-are-kids t z v (standing ρ) known (stands ρ)))

@@ -16,13 +16,13 @@ use Rattle.diagram.specs.Reading.{Reading, positions, says}
 use Rattle.diagram.specs.Room.{width, edgeTotal, Fits}
 use Rattle.diagram.specs.Ordered.{Ordered, down, sum, diagramOf}
 use Rattle.diagram.proofs.Lookup.{at-new, at-old}
-use Rattle.diagram.proofs.Facts.{facts}
+use Rattle.diagram.proofs.Facts.{facts-at}
 use Rattle.diagram.proofs.Continuing.{continues-length, continues-at, continues-value, continues-same}
-use Rattle.diagram.proofs.Counting.{falling-down, mem-down, down-mem, Partner, weigh, sum-down}
+use Rattle.diagram.proofs.Counting.{falling-down, mem-down, down-mem, Partner, sum-partners-le, sum-down}
 use Rattle.diagram.proofs.Diagrams.{width-runs, sound-ordered, tells-value}
-use Rattle.diagram.proofs.Fewest.{is-vertex, IsNode, twin, Pair, pair-inj, lighter}
-use Rattle.diagram.proofs.Apart.{one-id}
-use Rattle.diagram.proofs.Readings.{under-assignments}
+use Rattle.diagram.proofs.Fewest.{is-vertex, IsNode, reached-has-twin, Pair, pair-inj, width-le-partner}
+use Rattle.diagram.proofs.Apart.{same-value-same-id}
+use Rattle.diagram.proofs.Readings.{readings-cover-assignments}
 use Rattle.algebra.specs.Answering.{Answers, Answerable, AtLeast}
 
 -- the edges of all nodes, as a sum over refs
@@ -86,17 +86,17 @@ module _ (t : Table) (m : Reading → Bool) (out : Table × ℕ) (x : Answers t 
   -- an added one: the answer reaches it, and the other table's answer reaches its partner
   new : (r : ℕ) → length t < r → r ≤ length t′ → Match r
   new r p l =
-      let w = twin t′ z (diagramOf s) os (x .reached r p l) (out .1) i refl (omega arith) (x .right .known) hi
-      (λ α q. under-assignments (λ β. value t′ β (out .1) ≡ value s β i) (λ ρ. x .right .means ρ ∙ sym (h ρ)) α q ∙ sym (tells-value s zs α q i hi)) in
+      let w = reached-has-twin t′ z (diagramOf s) os (x .reached r p l) (out .1) i refl (omega arith) (x .right .known) hi
+      (λ α q. readings-cover-assignments (λ β. value t′ β (out .1) ≡ value s β i) (λ ρ. x .right .means ρ ∙ sym (h ρ)) α q ∙ sym (tells-value s zs α q i hi)) in
       let k = w .partner in
       let nx : IsNode t′ z (diagramOf s) os (w .of) = record { some = omega (arith, w .ref-is); inside = omega (arith, w .ref-is) } in
-      let hk = is-vertex (diagramOf s) (ref (k .to)) (omega (arith, k .vars, facts t′ z (ref (w .of)) (nx .some) (nx .inside) .known)) in
+      let hk = is-vertex (diagramOf s) (ref (k .to)) (omega (arith, k .vars, facts-at t′ z (ref (w .of)) (nx .some) (nx .inside) .known)) in
       record {
         to = ref (k .to);
         some = hk;
         inside = k .inside;
         pair = record { of = w .of; to = k .to; of-ref = w .ref-is; to-ref = refl; inside = nx .inside; same = k .same };
-        wide = rw (w .ref-is, width-runs s (ref (k .to)) hk) at (lighter t′ z (diagramOf s) os (w .of) i nx k);
+        wide = rw (w .ref-is, width-runs s (ref (k .to)) hk) at (width-le-partner t′ z (diagramOf s) os (w .of) i nx k);
       }
 
   match : (r : ℕ) → 0 < r → r ≤ length t′ → Match r
@@ -113,7 +113,7 @@ module _ (t : Table) (m : Reading → Bool) (out : Table × ℕ) (x : Answers t 
       record { to = k .to; there = mem-down (length s) (k .to) (k .some) (k .inside); pair = k .pair; lighter = f r k }
 
   weighed : (w w′ : ℕ → ℕ) → ((r : ℕ) (k : Match r) → w r ≤ w′ (k .to)) → sum w (down (length t′)) ≤ sum w′ (down (length s))
-  weighed w w′ f = weigh w w′ Pairs (pair-inj t′ z (diagramOf s) os) (suc (length t′)) (down (length t′)) (falling-down (length t′)) (down (length s)) (partner w w′ f)
+  weighed w w′ f = sum-partners-le w w′ Pairs (pair-inj t′ z (diagramOf s) os) (suc (length t′)) (down (length t′)) (falling-down (length t′)) (down (length s)) (partner w w′ f)
 
   pub no-smaller : AtLeast (out .0) s
   no-smaller = record {
@@ -141,6 +141,6 @@ room-exact t m out x nodes edges = (
 pub answer-held : (t : Table) → Sound t → (m : Reading → Bool) (out : Table × ℕ) → Answers t m out → (c : ℕ) → Known t c → ((ρ : Reading) → says t ρ c ≡ m ρ) → out ≡ (t, c)
 answer-held t z m out x c k h =
     let p = continues-same (x .right .continues) (no-smaller t m out x t z same c k h .nodes) in
-    let q = one-id (out .0) (x .right .sound) (out .1) c (x .right .known) (omega (arith, continues-length (x .right .continues)))
-    (under-assignments (λ α. value (out .0) α (out .1) ≡ value (out .0) α c) (λ ρ. x .right .means ρ ∙ sym (h ρ) ∙ sym (continues-value (x .right .continues) (positions ρ) c k))) in
+    let q = same-value-same-id (out .0) (x .right .sound) (out .1) c (x .right .known) (omega (arith, continues-length (x .right .continues)))
+    (readings-cover-assignments (λ α. value (out .0) α (out .1) ≡ value (out .0) α c) (λ ρ. x .right .means ρ ∙ sym (h ρ) ∙ sym (continues-value (x .right .continues) (positions ρ) c k))) in
     λ n. (p n, q n)

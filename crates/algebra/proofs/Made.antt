@@ -12,7 +12,7 @@ use Rattle.diagram.specs.Sound.{Child, Sound, Continues, same}
 use Rattle.diagram.specs.Reading.{Reading, positions}
 use Rattle.diagram.specs.Ordered.{Path, here, childAt, runsOf, diagramOf}
 use Rattle.diagram.proofs.Piecewise.{reduced-rising, select-beyond}
-use Rattle.diagram.proofs.Facts.{facts, kid-at}
+use Rattle.diagram.proofs.Facts.{facts-at, kid-at}
 use Rattle.diagram.proofs.Continuing.{continues-at}
 use Rattle.diagram.proofs.Runs.{child-runs}
 use Rattle.diagram.proofs.Diagrams.{path-trans, child-path, sound-ordered}
@@ -46,7 +46,7 @@ reach-path t z l (go-by {r = suc n} {s = s} p h x) = path-trans (rw e at (child-
     top-n = topOf (nd .var)
 
     rise : Rising 0 top-n (nd .edges)
-    rise = reduced-rising 0 top-n (nd .edges) (facts t z (suc n) h l .reduced)
+    rise = reduced-rising 0 top-n (nd .edges) (facts-at t z (suc n) h l .reduced)
 
     e : childAt (runsOf (diagramOf t) (suc n)) (min p top-n) ≡ select (nd .edges) p
     e = child-runs 0 top-n (nd .edges) (min p top-n) rise (omega arith) (omega arith) ∙ sym (select-beyond 0 top-n (nd .edges) p rise)
@@ -63,15 +63,15 @@ pub record Made (t : Table) (u : ℕ) (m : Assignment → Bool) (out : Table × 
 pub unchanged : (t : Table) → Sound t → (u id : ℕ) → Child t u id → (m : Assignment → Bool) → ((α : Assignment) → value t α id ≡ m α) → Made t u m (t, id)
 unchanged t z u id k m h = record { sound = z; continues = same; child = k; means = h; used = λ r n l. absurd (omega arith) }
 
-pub remean : {t : Table} {u : ℕ} {m m′ : Assignment → Bool} {out : Table × ℕ} → Made t u m out → ((α : Assignment) → m α ≡ m′ α) → Made t u m′ out
-remean x h = record { sound = x .sound; continues = x .continues; child = x .child; means = λ α. x .means α ∙ h α; used = x .used }
+pub made-same-meaning : {t : Table} {u : ℕ} {m m′ : Assignment → Bool} {out : Table × ℕ} → Made t u m out → ((α : Assignment) → m α ≡ m′ α) → Made t u m′ out
+made-same-meaning x h = record { sound = x .sound; continues = x .continues; child = x .child; means = λ α. x .means α ∙ h α; used = x .used }
 
 pub weaken : (t : Table) (u v : ℕ) (m : Assignment → Bool) (out : Table × ℕ) → u ≤ v → Made t v m out → Made t u m out
 weaken t u v m out h x = record { sound = x .sound; continues = x .continues; child = (x .child .0, omega (arith, x .child .1)); means = x .means; used = x .used }
 
 -- and as the promises have it: over document 01's readings
-pub answers : {t : Table} {u : ℕ} {m : Assignment → Bool} {out : Table × ℕ} → Made t u m out → (M : Reading → Bool) → ((ρ : Reading) → m (positions ρ) ≡ M ρ) → Answers t M out
-answers {out = out} x M h = record {
+pub made-answers : {t : Table} {u : ℕ} {m : Assignment → Bool} {out : Table × ℕ} → Made t u m out → (M : Reading → Bool) → ((ρ : Reading) → m (positions ρ) ≡ M ρ) → Answers t M out
+made-answers {out = out} x M h = record {
   right = record { sound = x .sound; continues = x .continues; known = x .child .0; means = λ ρ. x .means (positions ρ) ∙ h ρ };
   reached = λ r n l. reach-path (out .0) (x .sound) (x .child .0) (x .used r n l);
 }

@@ -16,12 +16,12 @@ use Rattle.diagram.specs.Cofactor.{map}
 use Rattle.diagram.specs.Sound.{Child, Extends, Sound, same, more}
 use Rattle.diagram.proofs.Lookup.{at-new, at-old, at-end, truth-new, value-under, value-ref, flipped-flipped}
 use Rattle.diagram.proofs.Piecewise.{count-pos}
-use Rattle.diagram.proofs.Facts.{facts}
+use Rattle.diagram.proofs.Facts.{facts-at}
 use Rattle.diagram.proofs.Cofactors.{select-map, reduced-map, each-map, child-under}
 use Rattle.algebra.specs.Overlay.{merge}
 use Rattle.algebra.specs.Making.{sameEdges, sameNode, find, intern, firstSign, settle, create-node}
 use Rattle.algebra.proofs.Overlays.{reduced-merge, select-merge, each-merge}
-use Rattle.algebra.proofs.Made.{Reach, stay, go-by, Made, unchanged, remean}
+use Rattle.algebra.proofs.Made.{Reach, stay, go-by, Made, unchanged, made-same-meaning}
 
 -- the test of nodes
 same-edges : (e f : Pieces ℕ) → sameEdges e f ≡ true → e ≡ f
@@ -56,10 +56,10 @@ pub record Found (t : Table) (nd : Node) (r : ℕ) : Type 0 where
   pub there : 0 < r → at t r ≡ nd
   pub absent : r ≡ 0 → (s : ℕ) → 0 < s → s ≤ length t → at t s ≡ nd → ⊥
 
-pub found : (t : Table) (nd : Node) → Found t nd (find t nd)
+pub find-found : (t : Table) (nd : Node) → Found t nd (find t nd)
 unfolding find
-found [] nd = record { inside = omega arith; there = λ h. absurd (omega arith); absent = λ z s p h. absurd (omega arith) }
-found (x ∷ t) nd = go (sameNode x nd) refl (found t nd)
+find-found [] nd = record { inside = omega arith; there = λ h. absurd (omega arith); absent = λ z s p h. absurd (omega arith) }
+find-found (x ∷ t) nd = go (sameNode x nd) refl (find-found t nd)
   where
     go : (b : Bool) → sameNode x nd ≡ b → Found t nd (find t nd) → Found (x ∷ t) nd (cond b (suc (length t)) (find t nd))
     go true q i = record { inside = omega arith; there = λ h. at-new x t ∙ same-node x nd q; absent = λ z. absurd (omega arith) }
@@ -97,7 +97,7 @@ module _ (t : Table) (z : Sound t) (v : ℕ) (hv : v < variables) (sgn c k : ℕ
     where
       absent : (r : ℕ) → r ≤ length t → at t r ≡ node → ⊥
       absent zero h q = omega (arith, ap (λ (m : Node). m .var) (sym q ∙ at-end t))
-      absent (suc r) h q = found t node .absent n (suc r) (omega arith) h q
+      absent (suc r) h q = find-found t node .absent n (suc r) (omega arith) h q
 
   -- a ref whose truth is that of the node's selected child
   meaning : (t′ : Table) (r : ℕ) (α : Assignment) → truth t′ α r ≡ value t α (select (node .edges) (α v)) → value t′ α (2 * r + sgn) ≡ value t α (select (cut c k e) (α v))
@@ -127,13 +127,13 @@ module _ (t : Table) (z : Sound t) (v : ℕ) (hv : v < variables) (sgn c k : ℕ
             reach = reaching (node ∷ t) (2 * suc (length t) + sgn) (length t) d (at-new node t);
           }
       go (suc r) q =
-          let f = found t node in
+          let f = find-found t node in
           let d : ref (2 * suc r + sgn) ≡ suc r = omega arith in
           let i : suc r ≤ length t = rw q at (f .inside) in
           let a : at t (suc r) ≡ node = rw q at (f .there (omega arith)) in
           record {
             made = unchanged t z v (2 * suc r + sgn) (omega arith, rw (d, a) (omega arith)) (λ α. value t α (select (cut c k e) (α v)))
-                (λ α. meaning t (suc r) α (rw a at (facts t z (suc r) (omega arith) i .truth-is α)));
+                (λ α. meaning t (suc r) α (rw a at (facts-at t z (suc r) (omega arith) i .truth-is α)));
             reach = reaching t (2 * suc r + sgn) r d a;
           }
 
@@ -156,6 +156,6 @@ pub created : (t : Table) → Sound t → (v : ℕ) → v < variables → (e : P
 created t z v hv e rise kids =
     let x = settled t z v hv (merge e) (reduced-merge 0 (topOf v) e rise) (each-merge (Child t (suc v)) e kids) in
     record {
-      made = remean (x .made) (λ α. ap (value t α) (select-merge 0 (topOf v) e rise (α v)));
+      made = made-same-meaning (x .made) (λ α. ap (value t α) (select-merge 0 (topOf v) e rise (α v)));
       reach = λ p. rw (select-merge 0 (topOf v) e rise p) at (x .reach p);
     }

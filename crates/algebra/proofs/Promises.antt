@@ -15,7 +15,7 @@ use Rattle.ranges.specs.Comparing.{compares, lowerOf, upperOf}
 use Rattle.ranges.specs.declared.bounds.Bound.{Bound}
 use Rattle.ranges.specs.declared.bounds.Comparison.{Comparison}
 use Rattle.ranges.proofs.Positions.{position-top, place-first, place-last, inside-positions, empty-positions, compares-bounds, keyed-lower, keyed-upper}
-use Rattle.ranges.proofs.Nearest.{first-last, place-nearest, position-nearest}
+use Rattle.ranges.proofs.Nearest.{first-place-le-last, place-nearest, position-nearest}
 use Rattle.diagram.specs.Pieces.{Pieces, select, Each, Rising}
 use Rattle.diagram.specs.Table.{firstBoolean, variables, topOf, Table, Assignment, value}
 use Rattle.diagram.specs.Cofactor.{upd}
@@ -23,7 +23,7 @@ use Rattle.diagram.specs.Sound.{Known, Child, Sound, Continues}
 use Rattle.diagram.specs.Reading.{Reading, positions, says, atPlace, switched}
 use Rattle.diagram.specs.Room.{Fits}
 use Rattle.diagram.proofs.Lookup.{value-false}
-use Rattle.diagram.proofs.Readings.{range-top, positions-within, positions-atPlace, positions-switched, under-assignments}
+use Rattle.diagram.proofs.Readings.{range-top, positions-within, positions-atPlace, positions-switched, readings-cover-assignments}
 use Rattle.algebra.specs.Making.{create-node}
 use Rattle.algebra.specs.Conditions.{between, from-range, comparison, from-bool}
 use Rattle.algebra.specs.Conjunction.{and, or}
@@ -31,7 +31,7 @@ use Rattle.algebra.specs.Disjointness.{is-disjoint}
 use Rattle.algebra.specs.Changing.{restrict, narrow, widen}
 use Rattle.algebra.specs.Answering.{Answers, Answerable, AtLeast}
 use Rattle.algebra.specs.Emptying.{Steady, StillChanges, EmptyAnswer}
-use Rattle.algebra.proofs.Made.{unchanged, answers}
+use Rattle.algebra.proofs.Made.{unchanged, made-answers}
 use Rattle.algebra.proofs.Making.{created}
 use Rattle.algebra.proofs.Conditioning.{select-between, from-range-made, comparison-made, from-bool-made}
 use Rattle.algebra.proofs.Conjoining.{and-made, or-made}
@@ -76,19 +76,19 @@ module _ (v : ℕ) (hv : v < firstBoolean) (lower upper : Bound) (kl : Keyed low
 module _ (t : Table) (z : Sound t) where
   -- Step 3: a range by two bounds holds where the place is inside,
   pub from-range-answers : (v : ℕ) → v < firstBoolean → (lower upper : Bound) → Keyed lower → Keyed upper → Answers t (λ ρ. inside lower upper (ρ .place v)) (from-range t v lower upper)
-  from-range-answers v hv lower upper kl ku = answers (from-range-made t z v (omega arith) lower upper (lo-top v hv lower upper kl ku)) _ (between-inside v hv lower upper kl ku)
+  from-range-answers v hv lower upper kl ku = made-answers (from-range-made t z v (omega arith) lower upper (lo-top v hv lower upper kl ku)) _ (between-inside v hv lower upper kl ku)
 
   -- a comparison where the place compares so with the key,
   pub comparison-answers : (v : ℕ) → v < firstBoolean → (op : Comparison) (key : ℤ) → Key key → Answers t (λ ρ. compares op key (ρ .place v)) (comparison t v op key)
   comparison-answers v hv op key h =
       let kl = keyed-lower op key h in
       let ku = keyed-upper op key h in
-      answers (comparison-made t z v (omega arith) op key (lo-top v hv (lowerOf op key) (upperOf op key) kl ku) _ (λ α. refl)) _
+      made-answers (comparison-made t z v (omega arith) op key (lo-top v hv (lowerOf op key) (upperOf op key) kl ku) _ (λ α. refl)) _
       (λ ρ. rw (between-inside v hv (lowerOf op key) (upperOf op key) kl ku ρ) (sym (compares-bounds op key (ρ .place v))))
 
   -- and a boolean where it is yes.
   pub from-bool-answers : (v : ℕ) → firstBoolean ≤ v → v < variables → Answers t (λ ρ. ρ .holds v) (from-bool t v)
-  from-bool-answers v lv hv = answers (from-bool-made t z v hv) _ (λ ρ. rw (le-ltb v firstBoolean lv) (is-yes (ρ .holds v)))
+  from-bool-answers v lv hv = made-answers (from-bool-made t z v hv) _ (λ ρ. rw (le-ltb v firstBoolean lv) (is-yes (ρ .holds v)))
     where
       is-yes : (b : Bool) → ltb (cond b 0 1) 1 ≡ b
       is-yes true = refl
@@ -96,14 +96,14 @@ module _ (t : Table) (z : Sound t) where
 
   -- Step 4: the node of given edges says what the child at the position of its variable says.
   pub create-node-answers : (v : ℕ) → v < variables → (e : Pieces ℕ) → Rising 0 (topOf v) e → Each (Child t (suc v)) e → Answers t (λ ρ. says t ρ (select e (positions ρ v))) (create-node t v e)
-  create-node-answers v hv e rise kids = answers (created t z v hv e rise kids .made) _ (λ ρ. refl)
+  create-node-answers v hv e rise kids = made-answers (created t z v hv e rise kids .made) _ (λ ρ. refl)
 
   -- Step 5: conjunction says both, and disjunction either.
   pub and-answers : (x y : ℕ) → Known t x → Known t y → Answers t (λ ρ. says t ρ x && says t ρ y) (and t x y)
-  and-answers x y kx ky = answers (and-made t z x y kx ky) _ (λ ρ. refl)
+  and-answers x y kx ky = made-answers (and-made t z x y kx ky) _ (λ ρ. refl)
 
   pub or-answers : (x y : ℕ) → Known t x → Known t y → Answers t (λ ρ. says t ρ x || says t ρ y) (or t x y)
-  or-answers x y kx ky = answers (or-made t z x y kx ky) _ (λ ρ. refl)
+  or-answers x y kx ky = made-answers (or-made t z x y kx ky) _ (λ ρ. refl)
 
   -- Step 6: disjointness is yes exactly when no reading makes both true.
   pub disjoint-exactly : (x y : ℕ) → Known t x → Known t y → (is-disjoint t x y ≡ true) ↔ ((ρ : Reading) → (says t ρ x && says t ρ y) ≡ false)
@@ -113,13 +113,13 @@ module _ (t : Table) (z : Sound t) where
       go true e h = refl
       go false e h =
           let i = answer-no (disjoint-answer t z x y kx ky) e in
-          absurd (false≢true (sym (under-assignments (λ α. (value t α x && value t α y) ≡ false) h (i .assigned) (i .within)) ∙ rw (i .left, i .right)))
+          absurd (false≢true (sym (readings-cover-assignments (λ α. (value t α x && value t α y) ≡ false) h (i .assigned) (i .within)) ∙ rw (i .left, i .right)))
 
   module _ (id : ℕ) (k : Known t id) where
     -- Step 7: restriction says what the id says with the boolean at the value; a range variable leaves the id.
     pub restrict-answers : (v : ℕ) → firstBoolean ≤ v → v < variables → (b : Bool) → Answers t (λ ρ. says t (switched ρ v b) id) (restrict t v b id)
     unfolding restrict
-    restrict-answers v lv hv b = rw (le-ltb v firstBoolean lv) (answers (fixed-made t z v hv id k (cond b 0 1)) _ (λ ρ. sym (ap (λ (α : Assignment). value t α id) (positions-switched ρ v b lv))))
+    restrict-answers v lv hv b = rw (le-ltb v firstBoolean lv) (made-answers (fixed-made t z v hv id k (cond b 0 1)) _ (λ ρ. sym (ap (λ (α : Assignment). value t α id) (positions-switched ρ v b lv))))
 
     pub restrict-range : (v : ℕ) → v < firstBoolean → (b : Bool) → restrict t v b id ≡ (t, id)
     unfolding restrict
@@ -130,7 +130,7 @@ module _ (t : Table) (z : Sound t) where
       pub narrow-answers : empty lower upper ≡ false → Answers t (λ ρ. says t (atPlace ρ v (nearest lower upper (ρ .place v)) (place-nearest lower upper kl ku (ρ .place v) (ρ .within v))) id) (narrow t v lower upper id)
       unfolding narrow
       narrow-answers e =
-          rw e (answers (narrowed-made v (position (firstPlace lower)) (position (lastPlace upper)) (first-last lower upper kl ku e) (hi-top v hv lower upper kl ku) t z (omega arith) id k) _
+          rw e (made-answers (narrowed-made v (position (firstPlace lower)) (position (lastPlace upper)) (first-place-le-last lower upper kl ku e) (hi-top v hv lower upper kl ku) t z (omega arith) id k) _
           (λ ρ. sym (ap (λ (α : Assignment). value t α id) (positions-atPlace ρ v (nearest lower upper (ρ .place v)) (place-nearest lower upper kl ku (ρ .place v) (ρ .within v)) hv
           ∙ ap (upd (positions ρ) v) (position-nearest lower upper kl ku e (ρ .place v) (ρ .within v) ∙ ap (λ (p : ℕ). max (position (firstPlace lower)) (min p (position (lastPlace upper)))) (sym (position-range v hv ρ)))))))
 
@@ -150,9 +150,9 @@ module _ (t : Table) (z : Sound t) where
       widen-answers = go (empty lower upper) refl
         where
           go : (b : Bool) → empty lower upper ≡ b → Answers t (λ ρ. says t ρ id && inside lower upper (ρ .place v)) (widen t v lower upper id)
-          go true e = rw e (answers (unchanged t z 0 FALSE (omega arith, omega arith) (λ α. false) (λ α. value-false t α FALSE refl)) _
+          go true e = rw e (made-answers (unchanged t z 0 FALSE (omega arith, omega arith) (λ α. false) (λ α. value-false t α FALSE refl)) _
               (λ ρ. rw (empty-outside v hv lower upper kl ku e (ρ .place v) (ρ .within v)) (sym (and-false (says t ρ id)))))
-          go false e = rw e (answers (widened-made v (position (firstPlace lower)) (position (lastPlace upper)) (lo-top v hv lower upper kl ku) (omega arith) t z id k) _
+          go false e = rw e (made-answers (widened-made v (position (firstPlace lower)) (position (lastPlace upper)) (lo-top v hv lower upper kl ku) (omega arith) t z id k) _
               (λ ρ. ap (λ (b : Bool). says t ρ id && b) (between-inside v hv lower upper kl ku ρ)))
 
 -- Theorem 5, exact room. A sound table that continues the given one and holds an id that says the answer has at least as many nodes

@@ -54,10 +54,10 @@ module _ {A : Type 0} (f : Table → A → Table × ℕ) (t₀ : Table) (u : ℕ
     used = λ lo hi h r n l. record { spot = lo; low = omega arith; path = x .used r n l };
   }
 
-  pub walked : (t : Table) → Sound t → Continues t₀ t → (e : Pieces A) → Each P e → Walked t u m e (walk f t e)
+  pub walk-makes-each : (t : Table) → Sound t → Continues t₀ t → (e : Pieces A) → Each P e → Walked t u m e (walk f t e)
   unfolding walk
-  walked t z g (last a) h = one t a (ok t z g a h)
-  walked t z g (cut a k e) h = join (walked s (x .sound) (continues-trans g (x .continues)) e (h .1))
+  walk-makes-each t z g (last a) h = one t a (ok t z g a h)
+  walk-makes-each t z g (cut a k e) h = join (walk-makes-each s (x .sound) (continues-trans g (x .continues)) e (h .1))
     where
       x : Made t u (m a) (f t a)
       x = ok t z g a (h .0)
@@ -133,7 +133,7 @@ module _ {A : Type 0} (f : Table → A → Table × ℕ) (t₀ : Table) (u : ℕ
   walked-in : (low-first : Bool) (t : Table) → Sound t → Continues t₀ t → (e : Pieces A) → Each P e → Walked t u m e (walkIn low-first f t e)
   unfolding walkIn
   walked-in true t z g e h = walked-back t z g e h
-  walked-in false t z g e h = walked t z g e h
+  walked-in false t z g e h = walk-makes-each t z g e h
 
 -- the node of a variable v over what an operation f answers for the values of some pieces
 module _ {A : Type 0} (t : Table) (z : Sound t) (f : Table → A → Table × ℕ) (v : ℕ) (hv : v < variables) (P : A → Type 0) (m : A → Assignment → Bool)

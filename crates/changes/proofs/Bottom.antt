@@ -19,27 +19,27 @@ use Rattle.diagram.specs.Table.{firstBoolean, topOf, Table, at}
 use Rattle.diagram.specs.Cofactor.{edgesOf}
 use Rattle.diagram.specs.Sound.{Child}
 use Rattle.diagram.proofs.Readings.{range-top}
-use Rattle.diagram.proofs.Facts.{facts, is-node}
-use Rattle.diagram.proofs.Cofactors.{Kids, edge-other, edges-of, edges-rising, count-own}
+use Rattle.diagram.proofs.Facts.{facts-at, is-node}
+use Rattle.diagram.proofs.Cofactors.{Kids, edge-other, edges-are-kids, edges-rising, count-own}
 use Rattle.algebra.specs.Overlay.{above}
 use Rattle.algebra.specs.Making.{settle, create-node}
 use Rattle.algebra.specs.Changing.{isBefore, cutAbove, emptied, narrowed, widened}
 use Rattle.algebra.proofs.Overlays.{reduced-merge, each-merge}
 use Rattle.algebra.proofs.Descending.{Changes, before-no}
 use Rattle.algebra.proofs.Changed.{narrowed-changes, widened-changes}
-use Rattle.merging.proofs.Bottoms.{create-last, narrowed-reduced, narrowed-create}
-use Rattle.merging.proofs.Fitting.{full-wide}
-use Rattle.table.proofs.Laws.{clash}
+use Rattle.merging.proofs.Bottoms.{create-last, narrowed-reduced, create-narrowed-settles}
+use Rattle.merging.proofs.Fitting.{not-fits-too-wide}
+use Rattle.table.proofs.Laws.{not-false-and-true}
 use Rattle.making.specs.declared.edges.Edges as built
 use Rattle.making.specs.declared.nodes.Used.{Used}
 use Rattle.making.specs.declared.nodes.Made.{Made}
 use Rattle.making.specs.Building.{Building, piecesOf}
 use Rattle.making.specs.Outcome.{Lent, Outcome, Buildable, tableOf}
-use Rattle.making.proofs.Kept.{stays-here}
+use Rattle.making.proofs.Kept.{stays-refl}
 use Rattle.views.specs.declared.View.{View}
 use Rattle.views.specs.Seeing.{Readable, Inside, Views, seen}
-use Rattle.views.proofs.Sights.{readable, known-held, views-inside, seen-count}
-use Rattle.walks.proofs.Composing.{sound-of}
+use Rattle.views.proofs.Sights.{sound-readable, known-held, views-inside, seen-count}
+use Rattle.walks.proofs.Composing.{lent-sound, lent-readable}
 use Rattle.clipping.specs.declared.Clip.{Clip}
 use Rattle.clipping.specs.Clipping.{Clips}
 use Rattle.changes.specs.Changed.{narrowing, widening}
@@ -70,14 +70,10 @@ module _ {h : Used} {st : Store} {index : List ℕ} (l : Lent h st index) where
   abbrev t : Table
   t = tableOf h st
 
-  -- a lent table can be read
-  pub lent-read : Readable st (h .nodes)
-  lent-read = readable st index (h .nodes) (l .allowed) (l .sound)
-
   module _ {v id : ℕ} {a : View} (va : Views st (h .nodes) v id a) where
     -- a view of it lies within the words,
     pub view-inside : Inside (length (st .children)) a
-    view-inside = views-inside st (h .nodes) v id a lent-read va
+    view-inside = views-inside st (h .nodes) v id a (lent-readable l) va
 
     -- and has as many edges as the id at the variable
     as-many : count (edgesOf t v id) ≡ a .count
@@ -90,18 +86,18 @@ module _ {h : Used} {st : Store} {index : List ℕ} (l : Lent h st index) where
 
       -- so that its edges here are as those of a node,
       kids-here : Kids t v id (edgesOf t v id)
-      kids-here = edges-of t (sound-of l) v id (omega arith) at-or-after
+      kids-here = edges-are-kids t (lent-sound l) v id (omega arith) at-or-after
 
       -- their cuts rising
       rises-here : Rising 0 (topOf v) (edgesOf t v id)
-      rises-here = edges-rising t (sound-of l) v id (omega arith) at-or-after
+      rises-here = edges-rising t (lent-sound l) v id (omega arith) at-or-after
 
       -- where a view has one edge, that is the id: the edges of a node are two or more
       one-own : a .count ≡ 1 → edgesOf t v id ≡ last id
       one-own e = go (ℕ-discrete ((at t (ref id)) .var) v)
         where
           go : Dec ((at t (ref id)) .var ≡ v) → edgesOf t v id ≡ last id
-          go (yes q) = absurd (omega (arith, facts t (sound-of l) (ref id) (is-node t (ref id) (omega arith)) (at-or-after .0) .many, count-own t v id q, as-many))
+          go (yes q) = absurd (omega (arith, facts-at t (lent-sound l) (ref id) (is-node t (ref id) (omega arith)) (at-or-after .0) .many, count-own t v id q, as-many))
           go (no n) = edge-other t v id n
 
       module _ (r : Range) where
@@ -133,7 +129,7 @@ module _ {h : Used} {st : Store} {index : List ℕ} (l : Lent h st index) where
 
           -- and it is the one that is wanted
           pub narrow-settles : settle t v (piecesOf es) ≡ narrows
-          narrow-settles = ap (settle t v) narrowed-pieces ∙ (sym (narrowed-create t v (r .first) (r .last) (edgesOf t v id) (kids-here .reduced)) ∙ ap (create-node t v) (sym (narrowing-some r (edgesOf t v id) some)))
+          narrow-settles = ap (settle t v) narrowed-pieces ∙ (sym (create-narrowed-settles t v (r .first) (r .last) (edgesOf t v id) (kids-here .reduced)) ∙ ap (create-node t v) (sym (narrowing-some r (edgesOf t v id) some)))
 
         -- widening: the edges inside the range, FALSE outside it
         module _ (some : r .first ≤ r .last) (most : r .last ≤ top) {c : Clip} (clips : (w : ℕ) → w < firstBoolean → Rising 0 (topOf w) (seen (st .children) (st .cuts) w a 0) → Clips (widened (r .first) (r .last) (topOf w) (seen (st .children) (st .cuts) w a 0)) c) where
@@ -165,7 +161,7 @@ module _ {h : Used} {st : Store} {index : List ℕ} (l : Lent h st index) where
 
           -- a 65th edge fits nowhere
           pub widen-full : c .ok ≡ false → (id′ : NodeId) → Outcome h (create-node t v wide) (record { ok = false; id = id′; used = h }) st st index
-          widen-full bad id′ = record { lent = l; stays = stays-here; table = λ q. absurd (clash refl q); id = λ q. absurd (clash refl q); full = λ q f. full-wide t v wide _ _ (clips-here .over bad) f }
+          widen-full bad id′ = record { lent = l; stays = stays-refl; table = λ q. absurd (not-false-and-true refl q); id = λ q. absurd (not-false-and-true refl q); full = λ q f. not-fits-too-wide t v wide _ _ (clips-here .over bad) f }
 
 -- what was made under one name was made under another
 pub outcome-as : {h : Used} {want other : Table × ℕ} {m : Made} {st : Store} {st′ : Store} {index′ : List ℕ} → Outcome h want m st st′ index′ → want ≡ other → Outcome h other m st st′ index′

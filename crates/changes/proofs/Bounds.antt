@@ -19,11 +19,11 @@ use Rattle.diagram.specs.Table.{variables, firstBoolean, topOf, Table}
 use Rattle.diagram.specs.Sound.{Known}
 use Rattle.algebra.specs.Changing.{change, emptied, narrowed, narrow, widened, widen}
 use Rattle.algebra.proofs.Shortcuts.{narrow-open, widen-empty, widen-open}
-use Rattle.merging.proofs.Bottoms.{narrow-is, widen-is}
+use Rattle.merging.proofs.Bottoms.{narrow-is-change, widen-is-change}
 use Rattle.making.specs.declared.nodes.Used.{Used}
 use Rattle.making.specs.Outcome.{Lent, tableOf}
 use Rattle.views.proofs.Sights.{known-held}
-use Rattle.walks.proofs.Composing.{sound-of}
+use Rattle.walks.proofs.Composing.{lent-sound}
 use Rattle.changes.specs.Changed.{changed, narrowing, widening}
 use Rattle.table.specs.Layout.{Store}
 
@@ -36,14 +36,14 @@ module _ {lower upper : Bound} {r : Range} (b : Bounded lower upper r) (kl : Key
     -- narrowing by bounds, empty or not, is the change by their range,
     pub narrow-bounded : changed v (narrowing r) t id ≡ narrow t v lower upper id
     narrow-bounded =
-        sym (narrow-is t v lower upper id
+        sym (narrow-is-change t v lower upper id
         ∙ (ap (λ (x : Bool). change variables (λ e. cond x (emptied e) (narrowed (position (firstPlace lower)) (position (lastPlace upper)) e)) t v id) empty-is
         ∙ sym (ap₂ (λ (lo hi : ℕ). change variables (λ e. cond (ltb (r .last) (r .first)) (emptied e) (narrowed lo hi e)) t v id) (b .first) (b .last))))
 
     -- and widening by bounds that are not empty
     pub widen-bounded : r .first ≤ r .last → changed v (widening v r) t id ≡ widen t v lower upper id
     widen-bounded some =
-        ap₂ (λ (lo hi : ℕ). change variables (widened lo hi (topOf v)) t v id) (b .first) (b .last) ∙ sym (widen-is t v lower upper id (empty-is ∙ le-ltb (r .last) (r .first) some))
+        ap₂ (λ (lo hi : ℕ). change variables (widened lo hi (topOf v)) t v id) (b .first) (b .last) ∙ sym (widen-is-change t v lower upper id (empty-is ∙ le-ltb (r .last) (r .first) some))
 
 module _ {h : Used} {st : Store} {index : List ℕ} (l : Lent h st index) (v id : ℕ) (k : KnownTo (h .nodes) id) (hv : v < firstBoolean) where
   abbrev t : Table
@@ -56,11 +56,11 @@ module _ {h : Used} {st : Store} {index : List ℕ} (l : Lent h st index) (v id 
   -- "both ends open: the id unchanged" by narrowing, and by widening
   module _ {lower upper : Bound} (both : (lower ≡ Open) × (upper ≡ Open)) where
     pub narrow-all : narrow t v lower upper id ≡ (t, id)
-    narrow-all = ap₂ (λ (x y : Bound). narrow t v x y id) (both .0) (both .1) ∙ narrow-open t (sound-of l) v hv id known
+    narrow-all = ap₂ (λ (x y : Bound). narrow t v x y id) (both .0) (both .1) ∙ narrow-open t (lent-sound l) v hv id known
 
     pub widen-all : widen t v lower upper id ≡ (t, id)
-    widen-all = ap₂ (λ (x y : Bound). widen t v x y id) (both .0) (both .1) ∙ widen-open t (sound-of l) v hv id known
+    widen-all = ap₂ (λ (x y : Bound). widen t v x y id) (both .0) (both .1) ∙ widen-open t (lent-sound l) v hv id known
 
   -- "Empty bounds give FALSE."
   pub widen-none : {lower upper : Bound} {r : Range} → Bounded lower upper r → Keyed lower → Keyed upper → r .last < r .first → widen t v lower upper id ≡ (t, FALSE)
-  widen-none {lower} {upper} {r} b kl ku none = widen-empty t (sound-of l) v hv id known lower upper (empty-is b kl ku ∙ lt-ltb (r .last) (r .first) none)
+  widen-none {lower} {upper} {r} b kl ku none = widen-empty t (lent-sound l) v hv id known lower upper (empty-is b kl ku ∙ lt-ltb (r .last) (r .first) none)

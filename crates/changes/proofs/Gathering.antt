@@ -21,8 +21,8 @@ use Rattle.algebra.specs.Making.{create-node}
 use Rattle.algebra.specs.Conjunction.{walkIn, create-over}
 use Rattle.algebra.proofs.Made.{Made}
 use Rattle.table.specs.Layout.{room, Store}
-use Rattle.table.proofs.Laws.{split, clash}
-use Rattle.merging.proofs.Turning.{turn, tableAt, answerAt, table-next, answer-is, turns, turn-inside, turn-apart, turn-turn, answer-child, full-turn, each-of, rising-of}
+use Rattle.table.proofs.Laws.{lt-or-le, not-false-and-true}
+use Rattle.merging.proofs.Turning.{turn, tableAt, answerAt, table-next, answer-at-turn, walk-run-by-turns, turn-inside, turn-inj, turn-turn, answer-child, not-fits-turn-full, each-of-run, rising-same-cuts}
 use Rattle.views.specs.declared.View.{View}
 use Rattle.views.specs.Seeing.{Asked, Inside, childSeen, cutSeen, seen}
 use Rattle.views.proofs.Sights.{seen-each, childSeen-stays, cutSeen-stays}
@@ -32,10 +32,10 @@ use Rattle.making.specs.declared.nodes.Used.{Used}
 use Rattle.making.specs.declared.nodes.Made as code
 use Rattle.making.specs.Building.{Building, none, childIn, cutIn, piecesOf}
 use Rattle.making.specs.Outcome.{Stays, Outcome, Mergeable, tableOf}
-use Rattle.making.proofs.Kept.{stays-here, stays-trans, continued}
+use Rattle.making.proofs.Kept.{stays-refl, stays-trans, stays-continues}
 use Rattle.walks.specs.Walking.{Note, Ready, Stepped}
 use Rattle.changes.specs.Turning.{NodeOver, over}
-use Rattle.walks.proofs.Composing.{Grows, sound-of, ready-after, then-made, becomes, noted}
+use Rattle.walks.proofs.Composing.{Grows, lent-sound, ready-after-step, stepped-then-outcome, stepped-equal-want, stepped-with-note}
 use Rattle.walks.proofs.Booleans.{asked-kid}
 
 module _ (f : Table → ℕ → Table × ℕ) (h : Used) (st : Store) (memo : List ℕ) (a : View) (u : ℕ) where
@@ -90,7 +90,7 @@ module _ (f : Table → ℕ → Table × ℕ) (h : Used) (st : Store) (memo : Li
     unfolding seen
     walk-is =
         let z : a .count - 1 - 0 ≡ n = omega arith in
-        ap (λ (i : ℕ). walkIn back f t (run c (cutSeen (st .cuts) u a) 0 i)) z ∙ turns f t n c answers (cutSeen (st .cuts) u a) back (λ j l. ap (answerAt f t back n c) (turn-turn back n j l))
+        ap (λ (i : ℕ). walkIn back f t (run c (cutSeen (st .cuts) u a) 0 i)) z ∙ walk-run-by-turns f t n c answers (cutSeen (st .cuts) u a) back (λ j l. ap (answerAt f t back n c) (turn-turn back n j l))
 
     want-is : want ≡ create-over u (tableAt f t back n c (suc n), run answers (cutSeen (st .cuts) u a) 0 n)
     unfolding over
@@ -102,14 +102,14 @@ module _ (f : Table → ℕ → Table × ℕ) (h : Used) (st : Store) (memo : Li
         let z : a .count - a .count ≡ 0 = omega arith in
         record {
           ready = r;
-          stays = stays-here;
+          stays = stays-refl;
           long = refl;
           size = size;
           most = omega arith;
           table = λ q. rw z refl;
           child = λ q j l. absurd (omega arith);
           cut = λ q j l. absurd (omega arith);
-          full = λ q. absurd (clash q refl);
+          full = λ q. absurd (not-false-and-true q refl);
         }
 
     module _ {now : Used} {st₁ : Store} {index₁ memo₁ : List ℕ} {out : built.Edges} {ok : Bool} {left : ℕ}
@@ -126,7 +126,7 @@ module _ (f : Table → ℕ → Table × ℕ) (h : Used) (st : Store) (memo : Li
         turn-is = ⊎-elim
             (λ e. rw (lt-ltb u firstBoolean e) (rw (lt-ltb u firstBoolean e) at ei))
             (λ e. rw (le-ltb u firstBoolean e) (omega (arith, on, l .most, rw (le-ltb u firstBoolean e) at ei)))
-            (split u firstBoolean)
+            (lt-or-le u firstBoolean)
 
         here : j ≤ n
         here = omega (arith, on, l .most)
@@ -147,7 +147,7 @@ module _ (f : Table → ℕ → Table × ℕ) (h : Used) (st : Store) (memo : Li
           ex = rx ∙ (childSeen-stays (st .children) (st₁ .children) (st .cuts) (st₁ .cuts) u (h .edges) a (s .inside) (l .stays .child) i edge-inside ∙ ap c turn-is)
 
           grown : Child w (suc u) x
-          grown = subst (Child w (suc u)) (sym ex) (continues-child (continued (r .lent) (l .stays)) (suc u) _ (kid (turn back n j) (turn-inside back n j here)))
+          grown = subst (Child w (suc u)) (sym ex) (continues-child (stays-continues (r .lent) (l .stays)) (suc u) _ (kid (turn back n j) (turn-inside back n j here)))
 
           -- Its child may be asked about.
           pub kid-asked : {q : ℕ} → variables < suc u + q → Asked w (now .nodes) q x
@@ -168,7 +168,7 @@ module _ (f : Table → ℕ → Table × ℕ) (h : Used) (st : Store) (memo : Li
             put = getD-set-same (out .list) i (record { cut = k; child = d .id; spare = 0 }) none (omega (arith, l .size, edge-inside, s .inside .most))
 
             apart : (p : ℕ) → p < j → turn back n p ≡ i → ⊥
-            apart p q z = omega (arith, turn-apart back n p j (omega (arith, here)) here (z ∙ turn-is))
+            apart p q z = omega (arith, turn-inj back n p j (omega (arith, here)) here (z ∙ turn-is))
 
             other : (p : ℕ) → p < j → getD (out₂ .list) (turn back n p) none ≡ getD (out .list) (turn back n p) none
             other p q = getD-set-other (out .list) i (turn back n p) (record { cut = k; child = d .id; spare = 0 }) none (apart p q)
@@ -176,7 +176,7 @@ module _ (f : Table → ℕ → Table × ℕ) (h : Used) (st : Store) (memo : Li
             child-now : d .ok ≡ true → (p : ℕ) → p < suc j → Dec (p ≡ j) → childIn out₂ (turn back n p) ≡ answerAt f t back n c p
             child-now good p q (yes z) =
                 let o : childIn out₂ i ≡ d .id .0 = ap (λ (y : Edge). y .child .0) put in
-                rw z (ap (childIn out₂) (sym turn-is) ∙ (o ∙ (e .outcome .id good ∙ (ap (λ (y : Table × ℕ). y .1) answer ∙ sym (answer-is f t back n c j)))))
+                rw z (ap (childIn out₂) (sym turn-is) ∙ (o ∙ (e .outcome .id good ∙ (ap (λ (y : Table × ℕ). y .1) answer ∙ sym (answer-at-turn f t back n c j)))))
             child-now good p q (no z) = ap (λ (y : Edge). y .child .0) (other p (omega (arith, z))) ∙ l .child still-ok p (omega (arith, z))
 
             cut-now : (p : ℕ) → p < suc j → turn back n p < n → Dec (p ≡ j) → cutIn out₂ (turn back n p) ≡ cutSeen (st .cuts) u a (turn back n p)
@@ -189,7 +189,7 @@ module _ (f : Table → ℕ → Table × ℕ) (h : Used) (st : Store) (memo : Li
             -- One turn of the loop,
             pub gather-step : Gather P (d .used) st₂ index₂ memo₂ out₂ (d .ok) left₂
             gather-step = record {
-              ready = ready-after (l .ready) e;
+              ready = ready-after-step (l .ready) e;
               stays = stays-trans (l .stays) (e .outcome .stays);
               long = e .long ∙ l .long;
               size = simp length-set (l .size);
@@ -209,7 +209,7 @@ module _ (f : Table → ℕ → Table × ℕ) (h : Used) (st : Store) (memo : Li
 
                 no-room : d .ok ≡ false → Fits (room (st .nodes)) (length (st .children)) (want .0) → ⊥
                 no-room bad y =
-                    full-turn f t back n c (sound-of (r .lent)) (suc u) m made kid j here u (run answers (cutSeen (st .cuts) u a) 0 n) (room (st .nodes)) (length (st .children))
+                    not-fits-turn-full f t back n c (lent-sound (r .lent)) (suc u) m made kid j here u (run answers (cutSeen (st .cuts) u a) 0 n) (room (st .nodes)) (length (st .children))
                     (λ fit. e .outcome .full bad (moved (subst (λ (o : Table × ℕ). Fits (room (st .nodes)) (length (st .children)) (o .0)) (sym answer) fit))) (subst (λ (o : Table × ℕ). Fits (room (st .nodes)) (length (st .children)) (o .0)) want-is y)
 
             -- which falls.
@@ -223,7 +223,7 @@ module _ (f : Table → ℕ → Table × ℕ) (h : Used) (st : Store) (memo : Li
       -- What is done so far.
       pub so-far : Stepped P h (w, 0) (record { ok = true; id = record { 0 = 0 }; used = now }) st memo st₁ index₁ memo₁
       so-far = record {
-        outcome = record { lent = l .ready .lent; stays = l .stays; table = λ q. refl; id = λ q. refl; full = λ q. absurd (clash q refl) };
+        outcome = record { lent = l .ready .lent; stays = l .stays; table = λ q. refl; id = λ q. refl; full = λ q. absurd (not-false-and-true q refl) };
         long = l .long;
         recalled = l .ready .recalled;
       }
@@ -253,28 +253,28 @@ module _ (f : Table → ℕ → Table × ℕ) (h : Used) (st : Store) (memo : Li
           table-is : w ≡ tableAt f t back n c (suc n)
           table-is = l .table good ∙ ap (tableAt f t back n c) all-turns
 
-          pub can-merge : Mergeable w u closed
-          can-merge = record {
+          pub gathered-mergeable : Mergeable w u closed
+          gathered-mergeable = record {
             building = record { size = l .size; some = s .inside .some; most = s .inside .most };
             known = s .known;
-            rises = subst (Rising 0 (topOf u)) (sym pieces-are) (rising-of c answers (cutSeen (st .cuts) u a) 0 (topOf u) 0 n seen-rises);
+            rises = subst (Rising 0 (topOf u)) (sym pieces-are) (rising-same-cuts c answers (cutSeen (st .cuts) u a) 0 (topOf u) 0 n seen-rises);
             kids = subst (Each (Child w (suc u))) (sym pieces-are) (subst (λ (b : Table). Each (Child b (suc u)) (run answers (cutSeen (st .cuts) u a) 0 n)) (sym table-is)
-                (each-of (Child (tableAt f t back n c (suc n)) (suc u)) answers (cutSeen (st .cuts) u a) 0 n (λ i p q. answer-child f t back n c (sound-of (r .lent)) (suc u) m made kid (turn back n i) (turn-inside back n i (omega arith)))));
+                (each-of-run (Child (tableAt f t back n c (suc n)) (suc u)) answers (cutSeen (st .cuts) u a) 0 n (λ i p q. answer-child f t back n c (lent-sound (r .lent)) (suc u) m made kid (turn back n i) (turn-inside back n i (omega arith)))));
           }
 
           made-is : create-node w u (piecesOf closed) ≡ want
           made-is = ap₂ (λ (b : Table) (p : Pieces ℕ). create-node b u p) table-is pieces-are ∙ sym want-is
 
         -- The node over the answers, and what is noted of it.
-        pub gathered : {x : ℕ} → ((t′ : Table) (z : ℕ) → t′ ≡ want .0 → z ≡ want .1 → P t′ x TRUE z) → {o : code.Made} {st₂ : Store} {index₂ memo₂ : List ℕ}
+        pub stepped-when-gathered : {x : ℕ} → ((t′ : Table) (z : ℕ) → t′ ≡ want .0 → z ≡ want .1 → P t′ x TRUE z) → {o : code.Made} {st₂ : Store} {index₂ memo₂ : List ℕ}
             → NodeOver ok now x u closed st₁ index₁ memo₁ o st₂ index₂ memo₂ → Stepped P h want o st memo st₂ index₂ memo₂
-        gathered {x} note {o} {st₂} {index₂} {memo₂} v = go ok refl
+        stepped-when-gathered {x} note {o} {st₂} {index₂} {memo₂} v = go ok refl
           where
             go : (b : Bool) → ok ≡ b → Stepped P h want o st memo st₂ index₂ memo₂
-            go true good = last (o .ok) refl (becomes (then-made r so-far grows (v .made good)) (made-is good))
+            go true good = last (o .ok) refl (stepped-equal-want (stepped-then-outcome r so-far grows (v .made good)) (made-is good))
               where
                 last : (b : Bool) → o .ok ≡ b → Stepped P h want o st memo st₂ index₂ memo₁ → Stepped P h want o st memo st₂ index₂ memo₂
-                last true y q = noted q (note _ _ (q .outcome .table y) (q .outcome .id y)) (v .noted good y)
+                last true y q = stepped-with-note q (note _ _ (q .outcome .table y) (q .outcome .id y)) (v .noted good y)
                 last false y q = rw (v .not-noted good y) q
             go false bad =
                 let z = v .nothing bad in
@@ -282,8 +282,8 @@ module _ (f : Table → ℕ → Table × ℕ) (h : Used) (st : Store) (memo : Li
                   outcome = record {
                     lent = rw (z .1, z .2 .same, z .2 .index-same) (l .ready .lent);
                     stays = rw (z .1, z .2 .same) (l .stays);
-                    table = λ q. absurd (clash (z .0) q);
-                    id = λ q. absurd (clash (z .0) q);
+                    table = λ q. absurd (not-false-and-true (z .0) q);
+                    id = λ q. absurd (not-false-and-true (z .0) q);
                     full = λ q. l .full bad .1;
                   };
                   long = rw (z .3) (l .long);

@@ -13,14 +13,14 @@ use Rattle.diagram.proofs.Lookup.{at-end}
 use Rattle.algebra.specs.Changing.{isBefore}
 use Rattle.table.specs.Layout.{varAt, Store}
 use Rattle.table.specs.Held.{held}
-use Rattle.table.proofs.Laws.{split}
+use Rattle.table.proofs.Laws.{lt-or-le}
 use Rattle.merging.proofs.Descent.{is-not-before}
 use Rattle.views.specs.Seeing.{Readable}
 use Rattle.views.proofs.Sights.{variable-is}
 
 pub before-is : {st : Store} {u : ℕ} → Readable st u → (id : ℕ) → KnownTo u id → {v : ℕ} → v < variables → {b : Bool} → b ≡ (ltb 1 id && ltb (varAt (st .nodes) (ref id - 1)) v) → b ≡ isBefore (held st u) v id
 unfolding isBefore
-before-is {st} {u} r id k {v} hv e = e ∙ ⊎-elim end node (split id 2)
+before-is {st} {u} r id k {v} hv e = e ∙ ⊎-elim end node (lt-or-le id 2)
   where
     t : Table
     t = held st u

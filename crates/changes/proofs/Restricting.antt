@@ -24,7 +24,7 @@ use Rattle.views.specs.declared.View.{View}
 use Rattle.views.specs.Seeing.{Readable, Asked, Views, childSeen, seen}
 use Rattle.views.proofs.Sights.{known-held, views-rising}
 use Rattle.walks.specs.Walking.{Ready}
-use Rattle.walks.proofs.Halves.{half, halves}
+use Rattle.walks.proofs.Halves.{half, sides-of-seen}
 use Rattle.changes.specs.Changed.{Changed, changed, restricting}
 use Rattle.changes.proofs.Down.{here-is}
 use Rattle.table.specs.Layout.{Store}
@@ -50,7 +50,7 @@ module _ {st : Store} {u v id : ℕ} {a : View} (r : Readable st u) (k : KnownTo
 
   -- the child that is read is the one of the value.
   pub chosen-is : (value : Bool) {c i : ℕ} → c ≡ childSeen (st .children) a i → i ≡ half (a .count) (not value) → c ≡ select (edgesOf t v id) (cond value 0 1)
-  chosen-is value e q = e ∙ (ap (childSeen (st .children) a) q ∙ (go value ∙ (select-half (halves (st .children) (st .cuts) v b a (x .inside .some) rises) value ∙ ap (λ (p : Pieces ℕ). select p (cond value 0 1)) (x .edges))))
+  chosen-is value e q = e ∙ (ap (childSeen (st .children) a) q ∙ (go value ∙ (select-half (sides-of-seen (st .children) (st .cuts) v b a (x .inside .some) rises) value ∙ ap (λ (p : Pieces ℕ). select p (cond value 0 1)) (x .edges))))
     where
       go : (value : Bool) → childSeen (st .children) a (half (a .count) (not value)) ≡ cond value (childSeen (st .children) a 0) (childSeen (st .children) a (a .count - 1))
       go true = refl

@@ -7,12 +7,12 @@ use Rattle.ids.specs.Id.{FALSE}
 use Rattle.diagram.specs.Pieces.{Pieces, last, cut, count, run}
 use Rattle.diagram.specs.Room.{mostEdges}
 use Rattle.algebra.specs.Overlay.{merge}
-use Rattle.table.proofs.Laws.{clash}
-use Rattle.merging.proofs.Gluing.{glued, Glue, glue-last, glue-over}
+use Rattle.table.proofs.Laws.{not-false-and-true}
+use Rattle.merging.proofs.Gluing.{glued, Glue, run-is-merge, glued-below-count}
 use Rattle.making.specs.declared.edges.Edge.{Edge}
 use Rattle.making.specs.declared.edges.Edges as built
 use Rattle.making.specs.Building.{childIn, cutIn}
-use Rattle.making.proofs.Slots.{stored, stored-size, SlotFor, put, slot-new}
+use Rattle.making.proofs.Slots.{stored, stored-size, SlotFor, stored-is-put, slot-new}
 use Rattle.clipping.specs.declared.Clip.{Clip}
 use Rattle.clipping.specs.Clipping.{Clips, Gathered, leading}
 
@@ -22,7 +22,7 @@ clips-same e x = record { built = λ q. (x .built q .0, x .built q .1 ∙ e); ov
 
 -- too many edges
 pub clips-over : {want : Pieces ℕ} {out : built.Edges} → mostEdges < count (merge want) → Clips want (record { ok = false; edges = out })
-clips-over h = record { built = λ q. absurd (clash refl q); over = λ q. h }
+clips-over h = record { built = λ q. absurd (not-false-and-true refl q); over = λ q. h }
 
 -- some edges before a rest, merged
 pub merge-leading : (c k : ℕ → ℕ) (n : ℕ) (r : Pieces ℕ) → merge (leading c k n r) ≡ glued c k n (merge r)
@@ -48,7 +48,7 @@ module _ {out : built.Edges} {len final : ℕ} (g : Gathered out len final) wher
     pub closed-over : {r : built.Edges} → mostEdges ≤ s → Clips wanted (record { ok = false; edges = r })
     closed-over h =
         let n = slot-new out (g .size) len final FALSE s (λ p. g .last-is) sf (omega (arith, g .most)) in
-        clips-over (omega (arith, n .0, glue-over (childIn out) (cutIn out) len wanted (last FALSE) glue-gathered (n .1)))
+        clips-over (omega (arith, n .0, glued-below-count (childIn out) (cutIn out) len wanted (last FALSE) glue-gathered (n .1)))
 
     -- it stands in its slot
     pub closed-in : (e : Edge) → e .child .0 ≡ d → s < mostEdges → Clips wanted (record { ok = true; edges = record { list = stored out s e .list; len = s + 1 } })
@@ -56,7 +56,7 @@ module _ {out : built.Edges} {len final : ℕ} (g : Gathered out len final) wher
       built = λ _. (
         record { size = stored-size out s e (g .size); some = omega arith; most = omega arith },
         (let z : s + 1 - 1 ≡ s = omega arith in ap (run (childIn (stored out s e)) (cutIn (stored out s e)) 0) z)
-            ∙ glue-last (childIn out) (cutIn out) (childIn (stored out s e)) (cutIn (stored out s e)) len s FALSE wanted glue-gathered (put out (g .size) len final FALSE s (λ p. g .last-is) sf e (q ∙ outside) h),
+            ∙ run-is-merge (childIn out) (cutIn out) (childIn (stored out s e)) (cutIn (stored out s e)) len s FALSE wanted glue-gathered (stored-is-put out (g .size) len final FALSE s (λ p. g .last-is) sf e (q ∙ outside) h),
       );
-      over = λ w. absurd (clash w refl);
+      over = λ w. absurd (not-false-and-true w refl);
     }

@@ -17,7 +17,7 @@ use Rattle.diagram.specs.Table.{firstBoolean}
 use Rattle.diagram.specs.Room.{mostEdges}
 use Rattle.diagram.proofs.Numbered.{run-shift}
 use Rattle.algebra.specs.Changing.{cutAbove}
-use Rattle.table.proofs.Laws.{split, clash}
+use Rattle.table.proofs.Laws.{lt-or-le, not-false-and-true}
 use Rattle.making.specs.declared.edges.Edge.{Edge}
 use Rattle.making.specs.declared.edges.Edges as built
 use Rattle.making.specs.Building.{Building, childIn, cutIn, piecesOf}
@@ -63,7 +63,7 @@ module _ (children : List ℕ) (cuts : List ℤ) (a : View) (hi from : ℕ) wher
     kids = λ j l. absurd (omega arith);
     ends = λ j l. absurd (omega arith);
     going = λ q. (h, λ j l. absurd (omega arith));
-    done = λ q. absurd (clash q refl);
+    done = λ q. absurd (not-false-and-true q refl);
   }
 
 module _ {children : List ℕ} {cuts : List ℤ} {a : View} {hi from : ℕ} {out : built.Edges} {i len : ℕ} {more : Bool} (w : Inside (length children) a) (x : Copying children cuts a hi from out i len more) where
@@ -77,7 +77,7 @@ module _ {children : List ℕ} {cuts : List ℤ} {a : View} {hi from : ℕ} {out
 
     -- a slot up to the new one: an old one, or the new one
     up-to : (P : ℕ → Type 0) → ((j : ℕ) → j < len → P j) → P len → (j : ℕ) → j < len + 1 → P j
-    up-to P old new j l = ⊎-elim (old j) (λ g. let z : len ≡ j = omega arith in rw z at new) (split j len)
+    up-to P old new j l = ⊎-elim (old j) (λ g. let z : len ≡ j = omega arith in rw z at new) (lt-or-le j len)
 
     pub copy-next : Copying children cuts a hi from (stored out len e) (i + 1) (len + 1) (leb k hi)
     copy-next = record {

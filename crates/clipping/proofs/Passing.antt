@@ -8,7 +8,7 @@ use lib.IntN.{ℤ}
 use Rattle.ranges.specs.Line.{top}
 use Rattle.diagram.specs.Table.{firstBoolean}
 use Rattle.algebra.specs.Overlay.{above}
-use Rattle.table.proofs.Laws.{split}
+use Rattle.table.proofs.Laws.{lt-or-le}
 use Rattle.views.specs.declared.View.{View}
 use Rattle.views.specs.Seeing.{beyond, childSeen, cutSeen, seen}
 use Rattle.views.proofs.Sights.{seen-last, seen-cut, cutSeen-range}
@@ -24,7 +24,7 @@ pass-none cuts a lo h = record { inside = omega arith; same = λ children v r. r
 
 -- a last edge reaches past each position, so that one which ends at a position or before is no last one
 pub not-last : {count k p : ℕ} (i : ℕ) → p ≤ top → (count ≤ i + 1 → k ≡ beyond) → k ≤ p → i + 1 < count
-not-last {count} i small end h = ⊎-elim (λ m. m) (λ m. absurd (omega (arith, end m))) (split (i + 1) count)
+not-last {count} i small end h = ⊎-elim (λ m. m) (λ m. absurd (omega (arith, end m))) (lt-or-le (i + 1) count)
 
 -- k is the cut of edge i
 module _ {cuts : List ℤ} {a : View} {lo i k : ℕ} (small : lo ≤ top) (p : Passing cuts a lo i) (real : i + 1 < a .count → k ≡ cutSeen cuts 0 a i) (end : a .count ≤ i + 1 → k ≡ beyond) where
@@ -38,7 +38,7 @@ module _ {cuts : List ℤ} {a : View} {lo i k : ℕ} (small : lo ≤ top) (p : P
       }
 
   pub pass-done : lo < k → (i < a .count) × ((children : List ℕ) (v : ℕ) → v < firstBoolean → above lo (seen children cuts v a 0) ≡ seen children cuts v a i)
-  pass-done h = (p .inside, λ children v r. p .same children v r ∙ ⊎-elim (λ m. inner children v r m) (λ m. outer children v m) (split (i + 1) (a .count)))
+  pass-done h = (p .inside, λ children v r. p .same children v r ∙ ⊎-elim (λ m. inner children v r m) (λ m. outer children v m) (lt-or-le (i + 1) (a .count)))
     where
       inner : (children : List ℕ) (v : ℕ) → v < firstBoolean → i + 1 < a .count → above lo (seen children cuts v a i) ≡ seen children cuts v a i
       inner children v r m =

@@ -19,12 +19,12 @@ use Rattle.diagram.proofs.Numbered.{first-run}
 use Rattle.diagram.proofs.Readings.{range-top}
 use Rattle.algebra.specs.Overlay.{above, merge}
 use Rattle.algebra.specs.Changing.{widened}
-use Rattle.table.proofs.Laws.{split, clash}
-use Rattle.merging.proofs.Gluing.{Glue, Put, next, glue-none, glue-step, glue-last, glue-over, put-apart}
+use Rattle.table.proofs.Laws.{lt-or-le, not-false-and-true}
+use Rattle.merging.proofs.Gluing.{Glue, Put, next, glue-none, glue-step, run-is-merge, glued-below-count, put-apart}
 use Rattle.making.specs.declared.edges.Edge.{Edge}
 use Rattle.making.specs.declared.edges.Edges as built
 use Rattle.making.specs.Building.{childIn, cutIn}
-use Rattle.making.proofs.Slots.{stored, stored-size, stored-child, stored-cut, SlotFor, put, slot-new}
+use Rattle.making.proofs.Slots.{stored, stored-size, stored-child, stored-cut, SlotFor, stored-is-put, slot-new}
 use Rattle.views.specs.declared.View.{View}
 use Rattle.views.specs.Seeing.{beyond, childSeen, cutSeen, seen}
 use Rattle.views.proofs.Sights.{seen-last, seen-cut, seen-range}
@@ -63,10 +63,10 @@ module _ (children : List ℕ) (cuts : List ℤ) (a : View) (lo hi : ℕ) where
       → (final : NodeId) → final .0 ≡ FALSE → (i : ℕ) → i < a .count → above lo (seen children cuts 0 a 0) ≡ seen children cuts 0 a i → Widening (stored out 0 e) len final i true
   widen-none out size e ec ed len n final f i h z = record {
     size = stored-size out 0 e size;
-    most = ⊎-elim (λ l. omega (arith, n .1 l)) (λ l. omega (arith, n .0 (omega arith))) (split 0 lo);
-    last-is = λ l. f ∙ (sym ed ∙ (sym (stored-child out 0 e size (omega arith)) ∙ ap c (let y : 0 ≡ len - 1 = ⊎-elim (λ l. omega (arith, n .1 l)) (λ l. omega (arith, n .0 (omega arith))) (split 0 lo) in y)));
-    going = λ q. (h, ⊎-elim below none (split 0 lo));
-    done = λ q. absurd (clash q refl);
+    most = ⊎-elim (λ l. omega (arith, n .1 l)) (λ l. omega (arith, n .0 (omega arith))) (lt-or-le 0 lo);
+    last-is = λ l. f ∙ (sym ed ∙ (sym (stored-child out 0 e size (omega arith)) ∙ ap c (let y : 0 ≡ len - 1 = ⊎-elim (λ l. omega (arith, n .1 l)) (λ l. omega (arith, n .0 (omega arith))) (lt-or-le 0 lo) in y)));
+    going = λ q. (h, ⊎-elim below none (lt-or-le 0 lo));
+    done = λ q. absurd (not-false-and-true q refl);
   }
     where
       c : ℕ → ℕ
@@ -99,7 +99,7 @@ module _ {children : List ℕ} {cuts : List ℤ} {a : View} {lo hi : ℕ} {out :
     pub widen-over : mostEdges ≤ s → mostEdges < count (merge (whole children cuts a lo hi))
     widen-over h =
         let n = slot-new out (x .size) len (final .0) (d .0) s (x .last-is) sf (omega (arith, x .most)) in
-        omega (arith, n .0, glue-over (childIn out) (cutIn out) len (whole children cuts a lo hi) (rest children cuts a lo hi i) glue (λ p q. n .1 p (q ∙ first-rest)))
+        omega (arith, n .0, glued-below-count (childIn out) (cutIn out) len (whole children cuts a lo hi) (rest children cuts a lo hi i) glue (λ p q. n .1 p (q ∙ first-rest)))
 
     module _ (small : hi ≤ top) (fits : s < mostEdges) {k : ℕ} (real : i + 1 < a .count → k ≡ cutSeen cuts 0 a i) (end : a .count ≤ i + 1 → k ≡ beyond) (l : ℕ) (cut-is : l ≡ min k (hi + 1)) where
       abbrev e : Edge
@@ -107,7 +107,7 @@ module _ {children : List ℕ} {cuts : List ℤ} {a : View} {lo hi : ℕ} {out :
 
       -- it stands in its slot
       put-it : Put (childIn out) (cutIn out) (childIn (stored out s e)) (cutIn (stored out s e)) len s (d .0)
-      put-it = put out (x .size) len (final .0) (d .0) s (x .last-is) sf e refl fits
+      put-it = stored-is-put out (x .size) len (final .0) (d .0) s (x .last-is) sf e refl fits
 
       -- it ends within the bounds, so that there is a next one
       rest-inner : k ≤ hi → rest children cuts a lo hi i ≡ cut (d .0) k (rest children cuts a lo hi (i + 1))
@@ -121,7 +121,7 @@ module _ {children : List ℕ} {cuts : List ℤ} {a : View} {lo hi : ℕ} {out :
       rest-over h = ⊎-elim
           (λ m. ap (closing hi top) (seen-cut children cuts 0 a i m) ∙ (closing-over hi top (childSeen children a i) (cutSeen cuts 0 a i) (seen children cuts 0 a (i + 1)) (omega (arith, real m)) ∙ ap (λ (b : ℕ). closing hi top (last b)) (sym kid)))
           (λ m. ap (closing hi top) (seen-last children cuts 0 a i (omega (arith, x .going on .0)) ∙ ap last (sym kid)))
-          (split (i + 1) (a .count))
+          (lt-or-le (i + 1) (a .count))
 
       -- and r is left after it
       step : (j : ℕ) (r : Pieces ℕ) → rest children cuts a lo hi i ≡ cut (d .0) j r → l ≡ j → Glue (childIn (stored out s e)) (cutIn (stored out s e)) (s + 1) (whole children cuts a lo hi) r
@@ -139,7 +139,7 @@ module _ {children : List ℕ} {cuts : List ℤ} {a : View} {lo hi : ℕ} {out :
           apart = λ j p. put-apart (childIn out) (cutIn out) (childIn (stored out s e)) (cutIn (stored out s e)) len s (d .0) (whole children cuts a lo hi) (rest children cuts a lo hi i) glue put-it j (omega arith);
           shut = λ t. step (suc hi) (last FALSE) (rest-over h ∙ closing-before hi top (d .0) t) (omega arith);
           full = λ t. (let y : s + 1 - 1 ≡ s = omega arith in ap (run (childIn (stored out s e)) (cutIn (stored out s e)) 0) y)
-              ∙ glue-last (childIn out) (cutIn out) (childIn (stored out s e)) (cutIn (stored out s e)) len s (d .0) (whole children cuts a lo hi) (subst (Glue (childIn out) (cutIn out) len (whole children cuts a lo hi)) (rest-over h ∙ closing-top hi top (d .0) t) glue) put-it;
+              ∙ run-is-merge (childIn out) (cutIn out) (childIn (stored out s e)) (cutIn (stored out s e)) len s (d .0) (whole children cuts a lo hi) (subst (Glue (childIn out) (cutIn out) len (whole children cuts a lo hi)) (rest-over h ∙ closing-top hi top (d .0) t) glue) put-it;
         };
       }
 
@@ -151,8 +151,8 @@ module _ {children : List ℕ} {cuts : List ℤ} {a : View} {lo hi : ℕ} {out :
     pub widen-closed : (upto : ℕ) → upto ≡ hi + 1 → {r : Clip} → Closes out len upto r → Clips (whole children cuts a lo hi) r
     widen-closed upto u {r} q = ⊎-elim
         (λ t. clips-same (merge-leading (childIn out) (cutIn out) len (last FALSE) ∙ x .done off .shut t .equal) (q .shut (omega arith)))
-        (λ t. subst (Clips (whole children cuts a lo hi)) (sym (q .whole (omega arith))) (record { built = λ _. (record { size = x .size; some = x .done off .some; most = x .most }, x .done off .full t); over = λ w. absurd (clash w refl) }))
-        (split hi top)
+        (λ t. subst (Clips (whole children cuts a lo hi)) (sym (q .whole (omega arith))) (record { built = λ _. (record { size = x .size; some = x .done off .some; most = x .most }, x .done off .full t); over = λ w. absurd (not-false-and-true w refl) }))
+        (lt-or-le hi top)
 
 -- What is wanted at a range variable.
 pub widened-wanted : (children : List ℕ) (cuts : List ℤ) (a : View) (lo hi upper : ℕ) → hi ≡ upper → lo ≤ upper → upper ≤ top → {r : Clip} → Clips (whole children cuts a lo hi) r

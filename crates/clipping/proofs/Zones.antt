@@ -16,9 +16,9 @@ use Rattle.algebra.specs.Changing.{keep, widened}
 use Rattle.algebra.proofs.Overlays.{rising-above, join-same}
 use Rattle.algebra.proofs.Conditioning.{rising-upTo}
 use Rattle.algebra.proofs.Commuting.{above-same, overlay-left, overlay-right, overlay-both}
-use Rattle.table.proofs.Laws.{split}
+use Rattle.table.proofs.Laws.{lt-or-le}
 use Rattle.merging.proofs.Gluing.{first-merge}
-use Rattle.merging.proofs.Stepping.{over-last-last, over-last-cut, over-cut-last}
+use Rattle.merging.proofs.Stepping.{overlay-last-last, overlay-last-cut, overlay-cut-last}
 
 -- from a position on, a piece that ends there or before is left out, and one that reaches past it is the first
 pub above-last : {B : Type 0} (b : B) (k : ℕ) → above k (last b) ≡ last b
@@ -76,25 +76,25 @@ closing-whole b hi top (last c) h r = closing-top hi top c h
 closing-whole b hi top (cut c k e) h r = closing-inner hi top c k e (omega (arith, r .1)) ∙ ap (cut c k) (closing-whole k hi top e h (r .2))
 
 first-ending : (hi top c : ℕ) → first (closing hi top (last c)) ≡ c
-first-ending hi top c = ⊎-elim (λ h. ap first (closing-before hi top c h)) (λ h. ap first (closing-top hi top c h)) (split hi top)
+first-ending hi top c = ⊎-elim (λ h. ap first (closing-before hi top c h)) (λ h. ap first (closing-top hi top c h)) (lt-or-le hi top)
 
 pub first-closing : (hi top : ℕ) (e : Pieces ℕ) → first (closing hi top e) ≡ first e
 first-closing hi top (last c) = first-ending hi top c
-first-closing hi top (cut c k e) = ⊎-elim (λ h. ap first (closing-over hi top c k e h) ∙ first-ending hi top c) (λ h. ap first (closing-inner hi top c k e h)) (split hi k)
+first-closing hi top (cut c k e) = ⊎-elim (λ h. ap first (closing-over hi top c k e h) ∙ first-ending hi top c) (λ h. ap first (closing-inner hi top c k e h)) (lt-or-le hi k)
 
 -- inside the bounds all is kept, outside nothing
 kept-whole : (e : Pieces ℕ) → map keep (overlay e (last true)) ≡ e
 unfolding map
-kept-whole (last c) = ap (map keep) (over-last-last c true)
-kept-whole (cut c k e) = ap (map keep) (over-cut-last c true k e) ∙ ap (cut c k) (kept-whole e)
+kept-whole (last c) = ap (map keep) (overlay-last-last c true)
+kept-whole (cut c k e) = ap (map keep) (overlay-cut-last c true k e) ∙ ap (cut c k) (kept-whole e)
 
 abbrev kept : Pieces (ℕ × Bool) → Pieces ℕ
 kept x = merge (map keep x)
 
 kept-none : (e : Pieces ℕ) → kept (overlay e (last false)) ≡ last FALSE
 unfolding map merge
-kept-none (last c) = ap kept (over-last-last c false)
-kept-none (cut c k e) = ap kept (over-cut-last c false k e) ∙ (ap (join FALSE k) (kept-none e) ∙ join-same FALSE k (last FALSE) refl)
+kept-none (last c) = ap kept (overlay-last-last c false)
+kept-none (cut c k e) = ap kept (overlay-cut-last c false k e) ∙ (ap (join FALSE k) (kept-none e) ∙ join-same FALSE k (last FALSE) refl)
 
 -- a first piece inside the bounds, and one outside them
 kept-cut : (c k : ℕ) (x : Pieces (ℕ × Bool)) → kept (cut (c, true) k x) ≡ join c k (kept x)
@@ -123,7 +123,7 @@ module _ (hi top : ℕ) (h : hi < top) where
   closed-off c e = kept-cut c (suc hi) (overlay e (last false)) ∙ (ap (join c (suc hi)) (kept-none e ∙ sym (merge-last FALSE)) ∙ (sym (merge-cut c (suc hi) (last FALSE)) ∙ sym (ap merge (closing-before hi top c h))))
 
   inside-bounded : (e : Pieces ℕ) → kept (overlay e upper) ≡ merge (closing hi top e)
-  inside-bounded (last c) = ap kept (over-last-cut c true (suc hi) (last false)) ∙ closed-off c (last c)
+  inside-bounded (last c) = ap kept (overlay-last-cut c true (suc hi) (last false)) ∙ closed-off c (last c)
   inside-bounded (cut c k e) = go (decLt hi k) (decLt (suc hi) k) (inside-bounded e)
     where
       go : Dec (hi < k) → Dec (suc hi < k) → kept (overlay e upper) ≡ merge (closing hi top e) → kept (overlay (cut c k e) upper) ≡ merge (closing hi top (cut c k e))
@@ -138,12 +138,12 @@ module _ (hi top : ℕ) (h : hi < top) where
 
 inside-closing : (b hi top : ℕ) (e : Pieces ℕ) → Rising b top e → kept (overlay e (upTo hi top)) ≡ merge (closing hi top e)
 unfolding upTo
-inside-closing b hi top e r = ⊎-elim (λ h. rw (lt-ltb hi top h) (inside-bounded hi top h e)) (λ h. rw (le-ltb hi top h) (ap merge (kept-whole e ∙ sym (closing-whole b hi top e h r)))) (split hi top)
+inside-closing b hi top e r = ⊎-elim (λ h. rw (lt-ltb hi top h) (inside-bounded hi top h e)) (λ h. rw (le-ltb hi top h) (ap merge (kept-whole e ∙ sym (closing-whole b hi top e h r)))) (lt-or-le hi top)
 
 -- the lower bound: several pieces of FALSE below it are merged into one
 module _ (lo top : ℕ) (f : Pieces Bool) (q : Rising lo top f) where
   inside-fronted : (b : ℕ) (e : Pieces ℕ) → Rising b top e → kept (overlay e (cut false lo f)) ≡ merge (cut FALSE lo (map keep (overlay (above lo e) f)))
-  inside-fronted b (last c) r = ap kept (over-last-cut c false lo f) ∙ (dropped-cut c lo (overlay (last c) f) ∙ (ap (λ (x : Pieces ℕ). join FALSE lo (kept (overlay x f))) (sym (above-last c lo)) ∙ sym (merge-cut FALSE lo _)))
+  inside-fronted b (last c) r = ap kept (overlay-last-cut c false lo f) ∙ (dropped-cut c lo (overlay (last c) f) ∙ (ap (λ (x : Pieces ℕ). join FALSE lo (kept (overlay x f))) (sym (above-last c lo)) ∙ sym (merge-cut FALSE lo _)))
   inside-fronted b (cut c k e) r = go (decLt lo k) (decLt k lo) (inside-fronted k e (r .2))
     where
       -- the first piece that reaches past the bound begins what is left

@@ -22,7 +22,7 @@ use Rattle.diagram.specs.Cofactor.{map}
 use Rattle.diagram.proofs.Readings.{range-top}
 use Rattle.algebra.specs.Making.{settle, create-node}
 use Rattle.algebra.specs.Conditions.{between, terminal, from-range, comparison}
-use Rattle.table.proofs.Laws.{clash}
+use Rattle.table.proofs.Laws.{not-false-and-true}
 use Rattle.making.specs.declared.edges.Edges as built
 use Rattle.making.specs.declared.nodes.Used.{Used}
 use Rattle.making.specs.declared.nodes.Made.{Made}
@@ -56,26 +56,26 @@ key-handed {key = key} f k = rw (toZ-ofZ w32 key f) at k
 
 module _ {h : Used} {st : Store} {index : List ℕ} {st′ : Store} {index′ : List ℕ} where
   -- What is made under one name is made under another.
-  pub creates-as : {want other : Table × ℕ} {r : Made} → Creates h want r st index st′ index′ → want ≡ other → Creates h other r st index st′ index′
-  creates-as {r = r} p e = subst (λ (w : Table × ℕ). Creates h w r st index st′ index′) e p
+  pub creates-equal-want : {want other : Table × ℕ} {r : Made} → Creates h want r st index st′ index′ → want ≡ other → Creates h other r st index st′ index′
+  creates-equal-want {r = r} p e = subst (λ (w : Table × ℕ). Creates h w r st index st′ index′) e p
 
   module _ (t : Table) (v : ℕ) {op : Comparison} {key : ℤ} {c : Compared} (k : Compares op key c) {r : Made} (p : Creates h (create-node t v (map terminal (between (c .range .first) (c .range .last) (topOf v)))) r st index st′ index′) where
     -- A comparison that holds inside its range is that range,
     pub inside-wanted : c .outside ≡ false → Creates h (comparison t v op key) r st index st′ index′
     unfolding comparison
-    inside-wanted e = let o = sym (k .side) ∙ e in rw o (creates-as p (range-wanted t v (k .between)))
+    inside-wanted e = let o = sym (k .side) ∙ e in rw o (creates-equal-want p (range-wanted t v (k .between)))
 
     -- != is it flipped,
     pub outside-wanted : c .outside ≡ true → r .ok ≡ true → (id : NodeId) → id .0 ≡ flip (r .id .0) → Creates h (comparison t v op key) (record { ok = true; id = id; used = r .used }) st index st′ index′
     unfolding comparison
     outside-wanted e y id q =
         let o = sym (k .side) ∙ e in
-        let w = creates-as p (range-wanted t v (k .between)) .outcome in
-        rw o (record { outcome = record { lent = w .lent; stays = w .stays; table = λ x. w .table y; id = λ x. q ∙ ap flip (w .id y); full = λ x. absurd (clash x refl) }; untouched = λ x. absurd (clash x refl) })
+        let w = creates-equal-want p (range-wanted t v (k .between)) .outcome in
+        rw o (record { outcome = record { lent = w .lent; stays = w .stays; table = λ x. w .table y; id = λ x. q ∙ ap flip (w .id y); full = λ x. absurd (not-false-and-true x refl) }; untouched = λ x. absurd (not-false-and-true x refl) })
 
     -- and where there is no room for it there is none for either.
     pub full-wanted : r .ok ≡ false → Creates h (comparison t v op key) r st index st′ index′
     unfolding comparison
     full-wanted n =
-        let w = creates-as p (range-wanted t v (k .between)) in
-        record { outcome = record { lent = w .outcome .lent; stays = w .outcome .stays; table = λ x. absurd (clash n x); id = λ x. absurd (clash n x); full = w .outcome .full }; untouched = w .untouched }
+        let w = creates-equal-want p (range-wanted t v (k .between)) in
+        record { outcome = record { lent = w .outcome .lent; stays = w .outcome .stays; table = λ x. absurd (not-false-and-true n x); id = λ x. absurd (not-false-and-true n x); full = w .outcome .full }; untouched = w .untouched }

@@ -16,20 +16,20 @@ use Rattle.diagram.specs.Table.{variables, firstBoolean, isRange, Table, at, va
 use Rattle.diagram.specs.Cofactor.{edgesOf}
 use Rattle.diagram.specs.Sound.{Known, Child}
 use Rattle.diagram.proofs.Continuing.{continues-length, continues-value}
-use Rattle.diagram.proofs.Facts.{facts, is-node}
+use Rattle.diagram.proofs.Facts.{facts-at, is-node}
 use Rattle.diagram.proofs.Cofactors.{edge-other, count-own}
 use Rattle.algebra.specs.Conjunction.{opening, conj-node, conj}
-use Rattle.algebra.proofs.Conjoining.{opening-none}
+use Rattle.algebra.proofs.Conjoining.{neither-is-terminal}
 use Rattle.table.specs.Layout.{varAt, start, Store}
-use Rattle.table.proofs.Laws.{split}
+use Rattle.table.proofs.Laws.{lt-or-le}
 use Rattle.merging.proofs.Conjoined as joined
 use Rattle.making.specs.declared.nodes.Used.{Used}
 use Rattle.making.specs.Outcome.{tableOf}
 use Rattle.views.specs.declared.View.{View}
 use Rattle.views.specs.Seeing.{Asked, Inside, Sees, Views, seen}
-use Rattle.views.proofs.Sights.{known-held, views-rising, views-kids, count-bool, seen-count, first-is, sees-views, call-left}
+use Rattle.views.proofs.Sights.{known-held, views-rising, views-kids, bool-count-le-two, seen-count, first-variable-is, sees-views, call-left}
 use Rattle.walks.specs.Walking.{Ready, Sides, both}
-use Rattle.walks.proofs.Composing.{Grows, sound-of, can-read}
+use Rattle.walks.proofs.Composing.{Grows, lent-sound, ready-readable}
 use Rattle.walks.proofs.Walk.{Walk}
 use Rattle.conjunction.specs.Joining.{Entry, pairs}
 
@@ -64,7 +64,7 @@ module _ {h : Used} {st : Store} {index memo : List ℕ} (r : Ready Entry h st i
     right-known = known-held st (h .nodes) y (ay .known)
 
     one-less : n ≡ suc (n - 1)
-    one-less = omega (arith, call-left (can-read r) x ax)
+    one-less = omega (arith, call-left (ready-readable r) x ax)
 
     enough : variables < min u w + n
     enough = omega (arith, ax .ahead, ay .ahead)
@@ -80,33 +80,33 @@ module _ {h : Used} {st : Store} {index memo : List ℕ} (r : Ready Entry h st i
     opened-is {z} e = ap (λ (m : ℕ). conj m t x y) one-less ∙ joined.conj-opened (n - 1) t x y z e
 
     pub recalled-is : {z : ℕ} → Entry t x y z → conj n t x y ≡ (t, z)
-    recalled-is {z} e = joined.recalled n t (sound-of (r .lent)) (min u w) x y left-child right-child enough z (e .known) (e .means)
+    recalled-is {z} e = joined.conj-adds-nothing n t (lent-sound (r .lent)) (min u w) x y left-child right-child enough z (e .known) (e .means)
 
     -- What is remembered is true.
     pub entry-of : {out : Table × ℕ} {t′ : Table} {z : ℕ} → out ≡ conj n t x y → t′ ≡ out .0 → z ≡ out .1 → Entry t′ x y z
     entry-of {out} {t′} {z} e p q =
-        let m = joined.remembered n t (sound-of (r .lent)) (min u w) x y left-child right-child enough in
+        let m = joined.conj-known-says-both n t (lent-sound (r .lent)) (min u w) x y left-child right-child enough in
         subst (λ (c : ℕ). Entry t′ x y c) (sym (q ∙ ap (λ (o : Table × ℕ). o .1) e)) (subst (λ (s : Table). Entry s x y ((conj n t x y) .1)) (sym (p ∙ ap (λ (o : Table × ℕ). o .0) e)) (record { left-known = m .0; right-known = m .1; known = m .2; means = m .3 }))
 
     module _ (none : opening x y ≡ none) where
       pub left-node : 2 ≤ x
-      left-node = opening-none x y none .0
+      left-node = neither-is-terminal x y none .0
 
       pub right-node : 2 ≤ y
-      right-node = opening-none x y none .1
+      right-node = neither-is-terminal x y none .1
 
       module _ {v : ℕ} {a b : View} (first : v ≡ min (varAt (st .nodes) (ref x - 1)) (varAt (st .nodes) (ref y - 1))) (sa : Sees (st .nodes) v x a) (sb : Sees (st .nodes) v y b) where
         ev : v ≡ min u w
-        ev = first-is (can-read r) x y left-node (ax .known) right-node (ay .known) first .0
+        ev = first-variable-is (ready-readable r) x y left-node (ax .known) right-node (ay .known) first .0
 
         hv : v < variables
-        hv = first-is (can-read r) x y left-node (ax .known) right-node (ay .known) first .1
+        hv = first-variable-is (ready-readable r) x y left-node (ax .known) right-node (ay .known) first .1
 
         va : Views st (h .nodes) v x a
-        va = sees-views (can-read r) x (ax .known) hv sa
+        va = sees-views (ready-readable r) x (ax .known) hv sa
 
         vb : Views st (h .nodes) v y b
-        vb = sees-views (can-read r) y (ay .known) hv sb
+        vb = sees-views (ready-readable r) y (ay .known) hv sb
 
         lx : Child t v x
         lx = (left-known, omega (arith, ev))
@@ -116,7 +116,7 @@ module _ {h : Used} {st : Store} {index memo : List ℕ} (r : Ready Entry h st i
 
         -- A side that tests the variable has two edges or more, and one that does not has one.
         many : (id : ℕ) (c : View) → Known t id → Views st (h .nodes) v id c → (at t (ref id)) .var ≡ v → 2 ≤ c .count
-        many id c k vc e = omega (arith, facts t (sound-of (r .lent)) (ref id) (is-node t (ref id) (omega (arith, e, hv))) k .many, count-own t v id e, ap count (vc .edges), seen-count (st .children) (st .cuts) v c (vc .inside .some))
+        many id c k vc e = omega (arith, facts-at t (lent-sound (r .lent)) (ref id) (is-node t (ref id) (omega (arith, e, hv))) k .many, count-own t v id e, ap count (vc .edges), seen-count (st .children) (st .cuts) v c (vc .inside .some))
 
         one : (id : ℕ) (c : View) → Views st (h .nodes) v id c → ((at t (ref id)) .var ≡ v → ⊥) → c .count ≡ 1
         one id c vc e = sym (seen-count (st .children) (st .cuts) v c (vc .inside .some)) ∙ (ap count (vc .edges) ∙ ap count (edge-other t v id e))
@@ -126,7 +126,7 @@ module _ {h : Used} {st : Store} {index memo : List ℕ} (r : Ready Entry h st i
           where
             which : Dec (u ≡ v) → (u ≡ v) ⊎ (w ≡ v)
             which (yes e) = inl e
-            which (no e) = inr (⊎-elim (λ l. absurd (e (omega (arith, ev)))) (λ l. omega (arith, ev)) (split u (suc w)))
+            which (no e) = inr (⊎-elim (λ l. absurd (e (omega (arith, ev)))) (λ l. omega (arith, ev)) (lt-or-le u (suc w)))
 
         within : {c : View} → Inside (start (st .nodes) (h .nodes)) c → Inside (h .edges) c
         within {c} i = record { some = i .some; most = i .most; within = λ l. omega (arith, i .within l, r .lent .edges) }
@@ -134,14 +134,14 @@ module _ {h : Used} {st : Store} {index memo : List ℕ} (r : Ready Entry h st i
         pub sides : Sides t (h .edges) (st .children) (st .cuts) v (n - 1) a b
         sides = record {
           known = hv;
-          enough = omega (arith, enough, ev, call-left (can-read r) x ax);
+          enough = omega (arith, enough, ev, call-left (ready-readable r) x ax);
           tested = tested;
           left = within (va .inside);
           right = within (vb .inside);
-          left-rises = views-rising st (h .nodes) v x a (can-read r) hv lx va;
-          right-rises = views-rising st (h .nodes) v y b (can-read r) hv ly vb;
-          left-kids = views-kids st (h .nodes) v x a (can-read r) hv lx va;
-          right-kids = views-kids st (h .nodes) v y b (can-read r) hv ly vb;
+          left-rises = views-rising st (h .nodes) v x a (ready-readable r) hv lx va;
+          right-rises = views-rising st (h .nodes) v y b (ready-readable r) hv ly vb;
+          left-kids = views-kids st (h .nodes) v x a (ready-readable r) hv lx va;
+          right-kids = views-kids st (h .nodes) v y b (ready-readable r) hv ly vb;
         }
 
         -- Both test a boolean variable exactly when they have as many edges.
@@ -149,19 +149,19 @@ module _ {h : Used} {st : Store} {index memo : List ℕ} (r : Ready Entry h st i
         same-count g = go (ℕ-discrete u v) (ℕ-discrete w v)
           where
             ca : a .count ≤ 2
-            ca = count-bool st (h .nodes) v x a (can-read r) hv lx va g
+            ca = bool-count-le-two st (h .nodes) v x a (ready-readable r) hv lx va g
 
             cb : b .count ≤ 2
-            cb = count-bool st (h .nodes) v y b (can-read r) hv ly vb g
+            cb = bool-count-le-two st (h .nodes) v y b (ready-readable r) hv ly vb g
 
             go : Dec (u ≡ v) → Dec (w ≡ v) → eqb (a .count) (b .count) ≡ eqb u w
             go (yes p) (yes q) = eq-eqb (a .count) (b .count) (omega (arith, many x a left-known va p, many y b right-known vb q, ca, cb)) ∙ sym (eq-eqb u w (p ∙ sym q))
             go (yes p) (no q) = ne-eqb (a .count) (b .count) (λ e. omega (arith, many x a left-known va p, one y b vb q)) ∙ sym (ne-eqb u w (λ e. q (sym e ∙ p)))
             go (no p) (yes q) = ne-eqb (a .count) (b .count) (λ e. omega (arith, many y b right-known vb q, one x a va p)) ∙ sym (ne-eqb u w (λ e. p (e ∙ q)))
-            go (no p) (no q) = absurd (⊎-elim (λ l. p (omega (arith, ev))) (λ l. q (omega (arith, ev))) (split u w))
+            go (no p) (no q) = absurd (⊎-elim (λ l. p (omega (arith, ev))) (λ l. q (omega (arith, ev))) (lt-or-le u w))
 
         order : (not (isRange v) && not (eqb (a .count) (b .count))) ≡ (not (isRange v) && not (eqb u w))
-        order = ⊎-elim (λ l. rw (lt-ltb v firstBoolean l)) (λ l. ap (λ (e : Bool). not (isRange v) && not e) (same-count l)) (split v firstBoolean)
+        order = ⊎-elim (λ l. rw (lt-ltb v firstBoolean l)) (λ l. ap (λ (e : Bool). not (isRange v) && not e) (same-count l)) (lt-or-le v firstBoolean)
 
         -- The merge of both sides, in its order, is the conjunction.
         pub both-is : both (not (isRange v) && not (eqb (a .count) (b .count))) (pairs (n - 1)) t v (seen (st .children) (st .cuts) v a 0) (seen (st .children) (st .cuts) v b 0) ≡ conj n t x y

@@ -13,7 +13,7 @@ use Rattle.making.specs.declared.nodes.Used.{Used}
 use Rattle.making.specs.declared.nodes.Made.{Made}
 use Rattle.making.specs.Outcome.{tableOf}
 use Rattle.walks.specs.Walking.{Stepped, both}
-use Rattle.walks.proofs.Composing.{becomes}
+use Rattle.walks.proofs.Composing.{stepped-equal-want}
 use Rattle.conjunction.specs.Joining.{Entry, pairs}
 use Rattle.table.specs.Layout.{Store}
 
@@ -25,7 +25,7 @@ bool-order v h z = rw (le-ltb v firstBoolean h) refl
 
 module _ (h : Used) (st : Store) (memo : List ℕ) (a b : View) (v n : ℕ) {m : Made} {st′ : Store} {index′ memo′ : List ℕ} where
   pub left-to-right : v < firstBoolean → Stepped Entry h (both false (pairs n) (tableOf h st) v (seen (st .children) (st .cuts) v a 0) (seen (st .children) (st .cuts) v b 0)) m st memo st′ index′ memo′ → Stepped Entry h (both (not (isRange v) && not (eqb (a .count) (b .count))) (pairs n) (tableOf h st) v (seen (st .children) (st .cuts) v a 0) (seen (st .children) (st .cuts) v b 0)) m st memo st′ index′ memo′
-  left-to-right l c = becomes c (ap (λ (back : Bool). both back (pairs n) (tableOf h st) v (seen (st .children) (st .cuts) v a 0) (seen (st .children) (st .cuts) v b 0)) (range-order v l (not (eqb (a .count) (b .count)))))
+  left-to-right l c = stepped-equal-want c (ap (λ (back : Bool). both back (pairs n) (tableOf h st) v (seen (st .children) (st .cuts) v a 0) (seen (st .children) (st .cuts) v b 0)) (range-order v l (not (eqb (a .count) (b .count)))))
 
   pub by-tests : firstBoolean ≤ v → Stepped Entry h (both (not (eqb (a .count) (b .count))) (pairs n) (tableOf h st) v (seen (st .children) (st .cuts) v a 0) (seen (st .children) (st .cuts) v b 0)) m st memo st′ index′ memo′ → Stepped Entry h (both (not (isRange v) && not (eqb (a .count) (b .count))) (pairs n) (tableOf h st) v (seen (st .children) (st .cuts) v a 0) (seen (st .children) (st .cuts) v b 0)) m st memo st′ index′ memo′
-  by-tests l c = becomes c (ap (λ (back : Bool). both back (pairs n) (tableOf h st) v (seen (st .children) (st .cuts) v a 0) (seen (st .children) (st .cuts) v b 0)) (bool-order v l (not (eqb (a .count) (b .count)))))
+  by-tests l c = stepped-equal-want c (ap (λ (back : Bool). both back (pairs n) (tableOf h st) v (seen (st .children) (st .cuts) v a 0) (seen (st .children) (st .cuts) v b 0)) (bool-order v l (not (eqb (a .count) (b .count)))))

@@ -14,8 +14,8 @@ use Rattle.diagram.specs.Cofactor.{map, edgesOf, upd}
 use Rattle.diagram.specs.Sound.{Known, Child, Sound}
 use Rattle.diagram.specs.Reading.{Within}
 use Rattle.diagram.proofs.Piecewise.{differ}
-use Rattle.diagram.proofs.Facts.{facts, is-node, is-end, distinct, origin, truth-origin}
-use Rattle.diagram.proofs.Cofactors.{count-map, map-inj, edges-of, edge-child, value-edge, upd-within}
+use Rattle.diagram.proofs.Facts.{facts-at, is-node, is-end, at-inj, origin, truth-origin}
+use Rattle.diagram.proofs.Cofactors.{count-map, map-inj, edges-are-kids, edge-child, value-edge, upd-within}
 
 -- an assignment under which two ids say different things
 pub record Apart (t : Table) (a b : ℕ) : Type 0 where
@@ -63,13 +63,13 @@ module _ (t : Table) (z : Sound t) (a b : ℕ) (ha : Known t a) (hb : Known t b)
 
       -- a node has two edges or more
       wide : (x y : ℕ) → Known t x → (at t (ref x)) .var ≡ v → map (under (sign x)) ((at t (ref x)) .edges) ≡ last y → ⊥
-      wide x y hx e q = omega (arith, ap count q, count-map (under (sign x)) ((at t (ref x)) .edges), facts t z (ref x) (is-node t (ref x) (omega arith)) hx .many)
+      wide x y hx e q = omega (arith, ap count q, count-map (under (sign x)) ((at t (ref x)) .edges), facts-at t z (ref x) (is-node t (ref x) (omega arith)) hx .many)
 
       go : (p : Bool) → eqb va v ≡ p → (q : Bool) → eqb vb v ≡ q → cond p (map (under (sign a)) ea) (last a) ≡ cond q (map (under (sign b)) eb) (last b) → ⊥
       go true p true q e =
           let x : va ≡ vb = eqb-true va v p ∙ sym (eqb-true vb v q) in
           let y = map-inj (under (sign a)) (under-inj (sign a)) ea eb (e ∙ ap (λ (s : ℕ). map (under s) eb) (sym signs)) in
-          ne (omega (arith, distinct t z (ref a) (ref b) ha hb (λ i. record { var = x i; edges = y i })))
+          ne (omega (arith, at-inj t z (ref a) (ref b) ha hb (λ i. record { var = x i; edges = y i })))
       go true p false q e = wide a b ha (eqb-true va v p) e
       go false p true q e = wide b a hb (eqb-true vb v q) (sym e)
       go false p false q e = omega (arith, eqb-false va v p, eqb-false vb v q)
@@ -80,7 +80,7 @@ module _ (t : Table) (z : Sound t) (a b : ℕ) (ha : Known t a) (hb : Known t b)
   step k rec v hv hk hm =
       let ka : Child t v a = (ha, omega arith) in
       let kb : Child t v b = (hb, omega arith) in
-      let d = differ 0 (topOf v) (edgesOf t v a) (edgesOf t v b) (edges-of t z v a hv ka .reduced) (edges-of t z v b hv kb .reduced) (edges-differ v hv hm) in
+      let d = differ 0 (topOf v) (edgesOf t v a) (edgesOf t v b) (edges-are-kids t z v a hv ka .reduced) (edges-are-kids t z v b hv kb .reduced) (edges-differ v hv hm) in
       let p = d .spot in
       let ca = edge-child t z v a hv ka p in
       let cb = edge-child t z v b hv kb p in
@@ -104,13 +104,13 @@ told-apart t z (suc k) a b ha hb ka kb ne = go (ℕ-discrete (sign a) (sign b)) 
     go (yes s) (yes q) rec = step t z a b ha hb s ne k rec v q (omega arith) refl
     go (yes s) (no q) rec = absurd (ne (omega (arith, is-end t z (ref a) ha (omega arith), is-end t z (ref b) hb (omega arith))))
 
-pub apart : (t : Table) → Sound t → (a b : ℕ) → Known t a → Known t b → (a ≡ b → ⊥) → Apart t a b
-apart t z a b ha hb ne = told-apart t z variables a b ha hb (omega arith) (omega arith) ne
+pub distinct-ids-apart : (t : Table) → Sound t → (a b : ℕ) → Known t a → Known t b → (a ≡ b → ⊥) → Apart t a b
+distinct-ids-apart t z a b ha hb ne = told-apart t z variables a b ha hb (omega arith) (omega arith) ne
 
 -- ids that say the same under every assignment within the positions are equal
-pub one-id : (t : Table) → Sound t → (a b : ℕ) → Known t a → Known t b → ((α : Assignment) → Within α → value t α a ≡ value t α b) → a ≡ b
-one-id t z a b ha hb h = go (ℕ-discrete a b)
+pub same-value-same-id : (t : Table) → Sound t → (a b : ℕ) → Known t a → Known t b → ((α : Assignment) → Within α → value t α a ≡ value t α b) → a ≡ b
+same-value-same-id t z a b ha hb h = go (ℕ-discrete a b)
   where
     go : Dec (a ≡ b) → a ≡ b
     go (yes e) = e
-    go (no n) = let x = apart t z a b ha hb n in absurd (x .apart (h (x .assigned) (x .within)))
+    go (no n) = let x = distinct-ids-apart t z a b ha hb n in absurd (x .apart (h (x .assigned) (x .within)))

@@ -15,7 +15,7 @@ use Rattle.diagram.specs.Sound.{Known, Child, Sound, Continues}
 use Rattle.diagram.specs.Reading.{Within}
 use Rattle.diagram.proofs.Lookup.{value-under}
 use Rattle.diagram.proofs.Piecewise.{count-pos, each-select, reduced-rising}
-use Rattle.diagram.proofs.Facts.{facts, is-node, value-agree}
+use Rattle.diagram.proofs.Facts.{facts-at, is-node, value-agree}
 use Rattle.diagram.proofs.Continuing.{continues-at}
 
 module _ {A B : Type 0} (f : A → B) where
@@ -101,15 +101,15 @@ pub edge-other : (t : Table) (v id : ℕ) → ((at t (ref id)) .var ≡ v → �
 unfolding edgesOf
 edge-other t v id n = rw (ne-eqb ((at t (ref id)) .var) v n)
 
-pub edges-of : (t : Table) → Sound t → (v id : ℕ) → v < variables → Child t v id → Kids t v id (edgesOf t v id)
+pub edges-are-kids : (t : Table) → Sound t → (v id : ℕ) → v < variables → Child t v id → Kids t v id (edgesOf t v id)
 unfolding value
-edges-of t z v id hv k = go (ℕ-discrete ((at t (ref id)) .var) v)
+edges-are-kids t z v id hv k = go (ℕ-discrete ((at t (ref id)) .var) v)
   where
     go : Dec ((at t (ref id)) .var ≡ v) → Kids t v id (edgesOf t v id)
     go (yes y) =
         let s = sign id in
         let e = (at t (ref id)) .edges in
-        let f = facts t z (ref id) (is-node t (ref id) (omega arith)) (k .0) in
+        let f = facts-at t z (ref id) (is-node t (ref id) (omega arith)) (k .0) in
         rw (edge-own t v id y) (record {
           reduced = reduced-map (under s) (under-inj s) 0 (topOf v) e (rw y at (f .reduced));
           kids = each-map (under s) (Child t (suc v)) (Child t (suc v)) (child-under t (suc v) s) e (rw y at (f .kids));
@@ -119,15 +119,15 @@ edges-of t z v id hv k = go (ℕ-discrete ((at t (ref id)) .var) v)
 
 module _ (t : Table) (z : Sound t) (v id : ℕ) (hv : v < variables) (k : Child t v id) where
   pub edges-rising : Rising 0 (topOf v) (edgesOf t v id)
-  edges-rising = reduced-rising 0 (topOf v) (edgesOf t v id) (edges-of t z v id hv k .reduced)
+  edges-rising = reduced-rising 0 (topOf v) (edgesOf t v id) (edges-are-kids t z v id hv k .reduced)
 
   pub edge-child : (p : ℕ) → Child t (suc v) (select (edgesOf t v id) p)
-  edge-child p = each-select (Child t (suc v)) (edgesOf t v id) (edges-of t z v id hv k .kids) p
+  edge-child p = each-select (Child t (suc v)) (edgesOf t v id) (edges-are-kids t z v id hv k .kids) p
 
   -- with the variable at a position, the id says what its child there says
   pub value-edge : (α : Assignment) (p : ℕ) → value t (upd α v p) id ≡ value t α (select (edgesOf t v id) p)
   value-edge α p =
-      edges-of t z v id hv k .value-is (upd α v p) ∙ ap (λ (i : ℕ). value t (upd α v p) (select (edgesOf t v id) i)) (upd-same α v p)
+      edges-are-kids t z v id hv k .value-is (upd α v p) ∙ ap (λ (i : ℕ). value t (upd α v p) (select (edgesOf t v id) i)) (upd-same α v p)
       ∙ value-agree t z (suc v) (upd α v p) α (upd-later α v p) (select (edgesOf t v id) p) (edge-child p)
 
 -- older ids have the same children in a table that continues this one

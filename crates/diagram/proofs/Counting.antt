@@ -99,12 +99,12 @@ pub record Partner (w w′ : ℕ → ℕ) (Q : ℕ → ℕ → Type 0) (l : List
   pub pair : Q r to
   pub lighter : w r ≤ w′ to
 
-pub weigh : (w w′ : ℕ → ℕ) (Q : ℕ → ℕ → Type 0) → ((r s y : ℕ) → Q r y → Q s y → r ≡ s) → (b : ℕ) (rs : List ℕ) → Falling b rs → (l : List ℕ)
+pub sum-partners-le : (w w′ : ℕ → ℕ) (Q : ℕ → ℕ → Type 0) → ((r s y : ℕ) → Q r y → Q s y → r ≡ s) → (b : ℕ) (rs : List ℕ) → Falling b rs → (l : List ℕ)
     → ((r : ℕ) → List·Memᴰ r rs → Partner w w′ Q l r) → sum w rs ≤ sum w′ l
-weigh w w′ Q inj b [] f l h = omega arith
-weigh w w′ Q inj b (x ∷ rs) f l h =
+sum-partners-le w w′ Q inj b [] f l h = omega arith
+sum-partners-le w w′ Q inj b (x ∷ rs) f l h =
     let p = h x (List·Memᴰ·head refl) in
-    omega (arith, sum-remove w′ (p .there), p .lighter, weigh w w′ Q inj x rs (f .1) (remove (p .there)) (λ r m. move p r m (h r (List·Memᴰ·tail m))))
+    omega (arith, sum-remove w′ (p .there), p .lighter, sum-partners-le w w′ Q inj x rs (f .1) (remove (p .there)) (λ r m. move p r m (h r (List·Memᴰ·tail m))))
   where
     move : (p : Partner w w′ Q l x) (r : ℕ) → List·Memᴰ r rs → Partner w w′ Q l r → Partner w w′ Q (remove (p .there)) r
     move p r m q = record { to = q .to; there = mem-remove (p .there) (q .to) (λ (e : q .to ≡ p .to). apart e) (q .there); pair = q .pair; lighter = q .lighter }

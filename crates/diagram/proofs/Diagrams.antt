@@ -20,7 +20,7 @@ use Rattle.diagram.specs.Ordered.{Run, Diagram, holds, holders, childAt,
 use Rattle.diagram.proofs.Either.{either-true}
 use Rattle.diagram.proofs.Lookup.{at-end, truth-end, signed-under}
 use Rattle.diagram.proofs.Piecewise.{reduced-rising}
-use Rattle.diagram.proofs.Facts.{Facts, facts}
+use Rattle.diagram.proofs.Facts.{Facts, facts-at}
 use Rattle.diagram.proofs.Cofactors.{upd-same, upd-later, upd-within}
 use Rattle.diagram.proofs.Counting.{mem-down, down-mem, mem-filter, filter-mem}
 use Rattle.diagram.proofs.Runs.{Held, held, child-held, length-runs, holders-runs, child-runs, run-each, count-most}
@@ -195,16 +195,16 @@ sound-ordered t z n l = record {
     nd = at t (suc n)
 
     f : Facts t (suc n) nd
-    f = facts t z (suc n) (omega arith) l
+    f = facts-at t z (suc n) (omega arith) l
 
 -- it says as a diagram what it says as a table
 follow-truth : (t : Table) → Sound t → (n : ℕ) (α : Assignment) → Within α → (r : ℕ) → r ≤ length t → variables ≤ n + (at t r) .var → follow n (diagramOf t) α r ≡ truth t α r
 unfolding follow value
 follow-truth t z zero α w zero l h = sym (truth-end t α)
 follow-truth t z (suc n) α w zero l h = sym (truth-end t α)
-follow-truth t z zero α w (suc r) l h = absurd (omega (arith, facts t z (suc r) (omega arith) l .known))
+follow-truth t z zero α w (suc r) l h = absurd (omega (arith, facts-at t z (suc r) (omega arith) l .known))
 follow-truth t z (suc n) α w (suc r) l h =
-    let f = facts t z (suc r) (omega arith) l in
+    let f = facts-at t z (suc r) (omega arith) l in
     let nd = at t (suc r) in
     let p = α (nd .var) in
     let e = child-runs 0 (topOf (nd .var)) (nd .edges) p (reduced-rising 0 (topOf (nd .var)) (nd .edges) (f .reduced)) (omega arith) (w (nd .var)) in

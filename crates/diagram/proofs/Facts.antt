@@ -50,9 +50,9 @@ facts-new nd t g =
       truth-is = λ α. truth-new nd t α ∙ sym (value-old nd t α (select (nd .edges) (α (nd .var))) (k (α (nd .var)) .0));
     }
 
-pub facts : (t : Table) → Sound t → (r : ℕ) → 0 < r → r ≤ length t → Facts t r (at t r)
-facts [] s r p h = absurd (omega arith)
-facts (nd ∷ t) s r p h = go (ℕ-discrete r (suc (length t))) (λ l. facts t (s .1) r p l)
+pub facts-at : (t : Table) → Sound t → (r : ℕ) → 0 < r → r ≤ length t → Facts t r (at t r)
+facts-at [] s r p h = absurd (omega arith)
+facts-at (nd ∷ t) s r p h = go (ℕ-discrete r (suc (length t))) (λ l. facts-at t (s .1) r p l)
   where
     go : Dec (r ≡ suc (length t)) → (r ≤ length t → Facts t r (at t r)) → Facts (nd ∷ t) r (at (nd ∷ t) r)
     go (yes e) f = rw (e, at-new nd t) (facts-new nd t (s .0))
@@ -62,7 +62,7 @@ facts (nd ∷ t) s r p h = go (ℕ-discrete r (suc (length t))) (λ l. facts t (
 
 -- the child at a position of a ref's variable
 pub kid-at : (t : Table) → Sound t → (r p : ℕ) → 0 < r → r ≤ length t → Child t (suc ((at t r) .var)) (select ((at t r) .edges) p)
-kid-at t z r p h l = each-select (Child t (suc ((at t r) .var))) ((at t r) .edges) (facts t z r h l .kids) p
+kid-at t z r p h l = each-select (Child t (suc ((at t r) .var))) ((at t r) .edges) (facts-at t z r h l .kids) p
 
 -- a ref with a variable of the order is a node's, and any other is the terminal's
 pub is-node : (t : Table) (r : ℕ) → (at t r) .var < variables → 0 < r
@@ -71,16 +71,16 @@ is-node t (suc r) h = omega arith
 
 pub is-end : (t : Table) → Sound t → (r : ℕ) → r ≤ length t → variables ≤ (at t r) .var → r ≡ 0
 is-end t z zero l h = refl
-is-end t z (suc r) l h = absurd (omega (arith, facts t z (suc r) (omega arith) l .known))
+is-end t z (suc r) l h = absurd (omega (arith, facts-at t z (suc r) (omega arith) l .known))
 
 pub var-most : (t : Table) → Sound t → (r : ℕ) → r ≤ length t → (at t r) .var ≤ variables
 var-most t z zero h = rw (at-end t) (omega arith)
-var-most t z (suc r) h = omega (arith, facts t z (suc r) (omega arith) h .known)
+var-most t z (suc r) h = omega (arith, facts-at t z (suc r) (omega arith) h .known)
 
 -- two refs with one node are one ref
-pub distinct : (t : Table) → Sound t → (r s : ℕ) → r ≤ length t → s ≤ length t → at t r ≡ at t s → r ≡ s
-distinct [] z r s hr hs e = omega arith
-distinct (nd ∷ t) z r s hr hs e = go (ℕ-discrete r (suc (length t))) (ℕ-discrete s (suc (length t))) (λ k l. distinct t (z .1) r s k l)
+pub at-inj : (t : Table) → Sound t → (r s : ℕ) → r ≤ length t → s ≤ length t → at t r ≡ at t s → r ≡ s
+at-inj [] z r s hr hs e = omega arith
+at-inj (nd ∷ t) z r s hr hs e = go (ℕ-discrete r (suc (length t))) (ℕ-discrete s (suc (length t))) (λ k l. at-inj t (z .1) r s k l)
   where
     not-new : (x y : ℕ) → x ≤ length t → y ≡ suc (length t) → at (nd ∷ t) x ≡ at (nd ∷ t) y → ⊥
     not-new x y l q w = z .0 .new x l (sym (at-old nd t x l) ∙ w ∙ ap (at (nd ∷ t)) q ∙ at-new nd t)

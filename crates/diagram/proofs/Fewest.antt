@@ -17,11 +17,11 @@ use Rattle.diagram.specs.Reading.{Within}
 use Rattle.diagram.specs.Room.{width}
 use Rattle.diagram.specs.Ordered.{Run, Diagram, holds, childAt, varOf, runsOf, Later, Ordered, tells, Path, here, via, down, reached, nodeCount, edgeCount, diagramOf}
 use Rattle.diagram.proofs.Lookup.{value-flip}
-use Rattle.diagram.proofs.Piecewise.{reduced-rising, two}
-use Rattle.diagram.proofs.Facts.{facts, value-agree}
-use Rattle.diagram.proofs.Cofactors.{edges-of, edge-child, value-edge, select-own, count-own, upd-later, upd-within}
-use Rattle.diagram.proofs.Apart.{one-id}
-use Rattle.diagram.proofs.Counting.{falling-filter, falling-down, Partner, weigh, sum-one}
+use Rattle.diagram.proofs.Piecewise.{reduced-rising, two-told-apart}
+use Rattle.diagram.proofs.Facts.{facts-at, value-agree}
+use Rattle.diagram.proofs.Cofactors.{edges-are-kids, edge-child, value-edge, select-own, count-own, upd-later, upd-within}
+use Rattle.diagram.proofs.Apart.{same-value-same-id}
+use Rattle.diagram.proofs.Counting.{falling-filter, falling-down, Partner, sum-partners-le, sum-one}
 use Rattle.diagram.proofs.Runs.{Piece, run-piece, no-fewer}
 use Rattle.diagram.proofs.Diagrams.{path-trans, reached-path, path-reached, held-at, child-run, kid, kid-later, kid-path, tells-agree, tells-under, tells-kid, width-runs, sound-ordered}
 
@@ -48,13 +48,13 @@ module _ (t : Table) (z : Sound t) (d : Diagram) (o : Ordered d) where
     e = edgesOf t (var a) a
 
     var-known : var a < variables
-    var-known = facts t z (ref a) (na .some) (na .inside) .known
+    var-known = facts-at t z (ref a) (na .some) (na .inside) .known
 
     own : Child t (var a) a
     own = (na .inside, omega arith)
 
     many : 2 ≤ count e
-    many = rw (count-own t (var a) a refl) (facts t z (ref a) (na .some) (na .inside) .many)
+    many = rw (count-own t (var a) a refl) (facts-at t z (ref a) (na .some) (na .inside) .many)
 
     child : (p : ℕ) → Child t (suc (var a)) (select e p)
     child p = edge-child t z (var a) a var-known own p
@@ -71,8 +71,8 @@ module _ (t : Table) (z : Sound t) (d : Diagram) (o : Ordered d) where
     -- an id that says the same does not begin below the node's variable
     not-below : (c : ℕ) → ref c ≤ d .size → Same a c → var a < varOf d (ref c) → ⊥
     not-below c lc s h =
-        let x = two (topOf (var a)) e (edges-of t z (var a) a var-known own .reduced) many in
-        x .apart (one-id t z (select e (x .p)) (select e (x .q)) (child (x .p) .0) (child (x .q) .0)
+        let x = two-told-apart (topOf (var a)) e (edges-are-kids t z (var a) a var-known own .reduced) many in
+        x .apart (same-value-same-id t z (select e (x .p)) (select e (x .q)) (child (x .p) .0) (child (x .q) .0)
         (λ α w. constant α w (x .p) (x .p-top) ∙ sym (constant α w (x .q) (x .q-top))))
       where
         constant : (α : Assignment) → Within α → (p : ℕ) → p ≤ topOf (var a) → value t α (select e p) ≡ tells d α c
@@ -122,9 +122,9 @@ module _ (t : Table) (z : Sound t) (d : Diagram) (o : Ordered d) where
     pub ref-is : ref of ≡ s
     pub partner : Settled of c
 
-  pub twin : {r s : ℕ} → Path (diagramOf t) r s → (a c : ℕ) → ref a ≡ r → 0 < s → Known t a → ref c ≤ d .size → Same a c → Twin c s
-  twin (here {r = r}) a c q hs la lc i = record { of = a; ref-is = q; partner = settled a c (record { some = omega arith; inside = la }) lc i }
-  twin (via {n = n} {s = s} x m y) a c q hs la lc i = down-one (twin y (select (e a na) p) (kid d o (b .to) p) ref-kid hs (child a na p .0) (kid-later d o (b .to) p hb (b .inside) tb .0)
+  pub reached-has-twin : {r s : ℕ} → Path (diagramOf t) r s → (a c : ℕ) → ref a ≡ r → 0 < s → Known t a → ref c ≤ d .size → Same a c → Twin c s
+  reached-has-twin (here {r = r}) a c q hs la lc i = record { of = a; ref-is = q; partner = settled a c (record { some = omega arith; inside = la }) lc i }
+  reached-has-twin (via {n = n} {s = s} x m y) a c q hs la lc i = down-one (reached-has-twin y (select (e a na) p) (kid d o (b .to) p) ref-kid hs (child a na p .0) (kid-later d o (b .to) p hb (b .inside) tb .0)
       (kid-same a na (b .to) p hb (b .inside) (b .vars) tp (b .same)))
     where
       na : IsNode a
@@ -143,7 +143,7 @@ module _ (t : Table) (z : Sound t) (d : Diagram) (o : Ordered d) where
       var-is = ap (λ (r : ℕ). (at t r) .var) q
 
       piece : Piece 0 (topOf (nd .var)) (nd .edges) x
-      piece = run-piece 0 (topOf (nd .var)) (nd .edges) (reduced-rising 0 (topOf (nd .var)) (nd .edges) (facts t z (suc n) (omega arith) (omega arith) .reduced)) x m
+      piece = run-piece 0 (topOf (nd .var)) (nd .edges) (reduced-rising 0 (topOf (nd .var)) (nd .edges) (facts-at t z (suc n) (omega arith) (omega arith) .reduced)) x m
 
       p : ℕ
       p = x .from
@@ -178,21 +178,21 @@ module _ (t : Table) (z : Sound t) (d : Diagram) (o : Ordered d) where
   pair-inj s u r x y = go (ℕ-discrete (x .to) (y .to))
     where
       go : Dec (x .to ≡ y .to) → s ≡ u
-      go (yes q) = omega (arith, x .of-ref, y .of-ref, one-id t z (x .of) (y .of) (x .inside) (y .inside) (λ α w. x .same α w ∙ ap (tells d α) q ∙ sym (y .same α w)))
+      go (yes q) = omega (arith, x .of-ref, y .of-ref, same-value-same-id t z (x .of) (y .of) (x .inside) (y .inside) (λ α w. x .same α w ∙ ap (tells d α) q ∙ sym (y .same α w)))
       go (no q) =
           let n : flip (x .to) ≡ y .to = omega (arith, x .to-ref, y .to-ref) in
           omega (
             arith,
             x .of-ref,
             y .of-ref,
-            one-id t z (flip (x .of)) (y .of) (rw (ref-flip (x .of)) (x .inside)) (y .inside)
+            same-value-same-id t z (flip (x .of)) (y .of) (rw (ref-flip (x .of)) (x .inside)) (y .inside)
                 (λ α w. value-flip t α (x .of) ∙ ap not (x .same α w) ∙ sym (tells-under d o α 1 (x .to)) ∙ ap (tells d α) n ∙ sym (y .same α w)),
           )
 
   -- a node has no more edges than its partner
-  pub lighter : (a c : ℕ) → IsNode a → (y : Settled a c) → width t (ref a) ≤ length (runsOf d (ref (y .to)))
-  lighter a c na y = rw (count-own t (var a) a refl) at
-      (no-fewer 0 (topOf (var a)) (e a na) (edges-of t z (var a) a (var-known a na) (own a na) .reduced) (runsOf d (ref (y .to))) (λ p h l. held-at d o (ref (y .to)) p hy (y .inside) (rw (y .vars) l)) one)
+  pub width-le-partner : (a c : ℕ) → IsNode a → (y : Settled a c) → width t (ref a) ≤ length (runsOf d (ref (y .to)))
+  width-le-partner a c na y = rw (count-own t (var a) a refl) at
+      (no-fewer 0 (topOf (var a)) (e a na) (edges-are-kids t z (var a) a (var-known a na) (own a na) .reduced) (runsOf d (ref (y .to))) (λ p h l. held-at d o (ref (y .to)) p hy (y .inside) (rw (y .vars) l)) one)
     where
       hy : 0 < ref (y .to)
       hy = is-vertex d (ref (y .to)) (omega (arith, y .vars, var-known a na))
@@ -202,14 +202,14 @@ module _ (t : Table) (z : Sound t) (d : Diagram) (o : Ordered d) where
           let u = sign (y .to) in
           let g : childAt (runsOf d (ref (y .to))) p ≡ childAt (runsOf d (ref (y .to))) q
           = child-run d o (ref (y .to)) p hy (y .inside) (rw (y .vars) lp) x m xp ∙ sym (child-run d o (ref (y .to)) q hy (y .inside) (rw (y .vars) lq) x m xq) in
-          one-id t z (select (e a na) p) (select (e a na) q) (child a na p .0) (child a na q .0)
+          same-value-same-id t z (select (e a na) p) (select (e a na) q) (child a na p .0) (child a na q .0)
           (λ α w. kid-same a na (y .to) p hy (y .inside) (y .vars) lp (y .same) α w ∙ ap (λ (n : ℕ). tells d α (under u n)) g ∙ sym (kid-same a na (y .to) q hy (y .inside) (y .vars) lq (y .same) α w))
 
   partner : (a c s : ℕ) → Known t a → ref c ≤ d .size → Same a c → List·Memᴰ s (reached (diagramOf t) a)
       → (w w′ : ℕ → ℕ) → ((x : ℕ) (k : Settled x c) → IsNode x → w (ref x) ≤ w′ (ref (k .to))) → Partner w w′ Pair (reached d c) s
   partner a c s la lc i m w w′ h =
       let j = reached-path (diagramOf t) (sound-ordered t z) a s m in
-      let x = twin (j .2) a c refl (j .0) la lc i in
+      let x = reached-has-twin (j .2) a c refl (j .0) la lc i in
       let k = x .partner in
       let nx : IsNode (x .of) = record { some = omega (arith, x .ref-is, j .0); inside = omega (arith, x .ref-is, j .1) } in
       let hk = is-vertex d (ref (k .to)) (omega (arith, k .vars, var-known (x .of) nx)) in
@@ -225,7 +225,7 @@ module _ (t : Table) (z : Sound t) (d : Diagram) (o : Ordered d) where
   fewest a c la lc i =
       let f = falling-filter _ (suc (length t)) (down (length t)) (falling-down (length t)) in (
         rw (← (sum-one (reached (diagramOf t) a)), ← (sum-one (reached d c)))
-            (weigh (λ x. 1) (λ x. 1) Pair pair-inj (suc (length t)) (reached (diagramOf t) a) f (reached d c) (λ s m. partner a c s la lc i m (λ x. 1) (λ x. 1) (λ x k n. omega arith))),
-        weigh (λ r. length (runsOf (diagramOf t) r)) (λ r. length (runsOf d r)) Pair pair-inj (suc (length t)) (reached (diagramOf t) a) f (reached d c)
-            (λ s m. partner a c s la lc i m (λ r. length (runsOf (diagramOf t) r)) (λ r. length (runsOf d r)) (λ x k n. rw (width-runs t (ref x) (n .some)) (lighter x c n k))),
+            (sum-partners-le (λ x. 1) (λ x. 1) Pair pair-inj (suc (length t)) (reached (diagramOf t) a) f (reached d c) (λ s m. partner a c s la lc i m (λ x. 1) (λ x. 1) (λ x k n. omega arith))),
+        sum-partners-le (λ r. length (runsOf (diagramOf t) r)) (λ r. length (runsOf d r)) Pair pair-inj (suc (length t)) (reached (diagramOf t) a) f (reached d c)
+            (λ s m. partner a c s la lc i m (λ r. length (runsOf (diagramOf t) r)) (λ r. length (runsOf d r)) (λ x k n. rw (width-runs t (ref x) (n .some)) (width-le-partner x c n k))),
       )

@@ -109,6 +109,6 @@ pub record Two (t : ℕ) (e : Pieces ℕ) : Type 0 where
   pub q-top : q ≤ t
   pub apart : select e p ≡ select e q → ⊥
 
-pub two : (t : ℕ) (e : Pieces ℕ) → Reduced 0 t e → 2 ≤ count e → Two t e
-two t (last c) h n = absurd (omega arith)
-two t (cut c k e) h n = record { p = 0; q = k; p-top = omega arith; q-top = h .1; apart = λ x. after-cut 0 t c k e h (sym (select-left c k e 0 (h .0)) ∙ x) }
+pub two-told-apart : (t : ℕ) (e : Pieces ℕ) → Reduced 0 t e → 2 ≤ count e → Two t e
+two-told-apart t (last c) h n = absurd (omega arith)
+two-told-apart t (cut c k e) h n = record { p = 0; q = k; p-top = omega arith; q-top = h .1; apart = λ x. after-cut 0 t c k e h (sym (select-left c k e 0 (h .0)) ∙ x) }

@@ -15,12 +15,12 @@ use Rattle.diagram.specs.Sound.{Known, Sound, Continues}
 use Rattle.diagram.specs.Reading.{Reading, positions, says, lowestReading, Within}
 use Rattle.diagram.specs.Ordered.{Diagram, varOf, Ordered, follow, tells, Path, reached, nodeCount, edgeCount, diagramOf}
 use Rattle.diagram.proofs.Lookup.{value-flip}
-use Rattle.diagram.proofs.Facts.{Facts, facts, origin}
+use Rattle.diagram.proofs.Facts.{Facts, facts-at, origin}
 use Rattle.diagram.proofs.Continuing.{continues-value}
-use Rattle.diagram.proofs.Apart.{one-id, value-origin}
+use Rattle.diagram.proofs.Apart.{same-value-same-id, value-origin}
 use Rattle.diagram.proofs.Diagrams.{reached-path, path-reached, kid, tells-node, sound-ordered, tells-value}
 use Rattle.diagram.proofs.Fewest.{fewest}
-use Rattle.diagram.proofs.Readings.{positions-within, under-assignments}
+use Rattle.diagram.proofs.Readings.{positions-within, readings-cover-assignments}
 
 -- Theorem 1. A table that continues another keeps what older ids say,
 pub old-ids-say-the-same : (t s : Table) → Continues t s → (ρ : Reading) (id : ℕ) → Known t id → says s ρ id ≡ says t ρ id
@@ -32,12 +32,12 @@ flip-says-the-opposite t ρ id = value-flip t (positions ρ) id
 
 -- Theorem 2, canonicity. Two ids of one sound table are equal exactly when they agree under every reading.
 pub equal-when-they-agree : (t : Table) → Sound t → (a b : ℕ) → Known t a → Known t b → (a ≡ b) ↔ ((ρ : Reading) → says t ρ a ≡ says t ρ b)
-equal-when-they-agree t z a b ka kb = (λ e ρ. ap (says t ρ) e, λ h. one-id t z a b ka kb (under-assignments (λ α. value t α a ≡ value t α b) h))
+equal-when-they-agree t z a b ka kb = (λ e ρ. ap (says t ρ) e, λ h. same-value-same-id t z a b ka kb (readings-cover-assignments (λ α. value t α a ≡ value t α b) h))
 
 -- Theorem 3, fewest. No ordered diagram that says what an id of a sound table says has fewer nodes or fewer edges than that id reaches,
 pub no-smaller-diagram : (t : Table) → Sound t → (a : ℕ) → Known t a → (d : Diagram) → Ordered d → (c : ℕ) → ref c ≤ d .size
     → ((ρ : Reading) → says t ρ a ≡ tells d (positions ρ) c) → (nodeCount (diagramOf t) a ≤ nodeCount d c) × (edgeCount (diagramOf t) a ≤ edgeCount d c)
-no-smaller-diagram t z a ka d o c kc h = fewest t z d o a c ka kc (under-assignments (λ α. value t α a ≡ tells d α c) h)
+no-smaller-diagram t z a ka d o c kc h = fewest t z d o a c ka kc (readings-cover-assignments (λ α. value t α a ≡ tells d α c) h)
 
 -- and what the id reaches is itself such a diagram.
 pub table-is-a-diagram : (t : Table) → Sound t → Ordered (diagramOf t) × ((ρ : Reading) (id : ℕ) → Known t id → tells (diagramOf t) (positions ρ) id ≡ says t ρ id)
@@ -59,7 +59,7 @@ pub boolean-node : (t : Table) → Sound t → (r : ℕ) → 0 < r → r ≤ len
 boolean-node t z r h l b = go ((at t r) .edges) (f .many) (rw (le-ltb ((at t r) .var) firstBoolean b) at (f .reduced))
   where
     f : Facts t r (at t r)
-    f = facts t z r h l
+    f = facts-at t z r h l
 
     go : (e : Pieces ℕ) → 2 ≤ count e → Reduced 0 1 e → (high : ℕ) × (low : ℕ) × (e ≡ cut high 1 (last low)) × (high ≡ low → ⊥)
     go (last c) n x = absurd (omega arith)

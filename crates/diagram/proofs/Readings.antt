@@ -63,8 +63,8 @@ positions-reading α w = fun-ext (λ v. go v (isRange v) (w v))
     go v false h = bool (α v) h
 
 -- so what holds under every reading holds under every such assignment
-pub under-assignments : (P : Assignment → Type 0) → ((ρ : Reading) → P (positions ρ)) → (α : Assignment) → Within α → P α
-under-assignments P h α w = rw (positions-reading α w) at (h (reading α w))
+pub readings-cover-assignments : (P : Assignment → Type 0) → ((ρ : Reading) → P (positions ρ)) → (α : Assignment) → Within α → P α
+readings-cover-assignments P h α w = rw (positions-reading α w) at (h (reading α w))
 
 -- a changed reading is a changed assignment
 pub positions-atPlace : (ρ : Reading) (v : ℕ) (p : ℤ) (ok : Place p) → v < firstBoolean → positions (atPlace ρ v p ok) ≡ upd (positions ρ) v (position p)

@@ -17,7 +17,7 @@ use Rattle.algebra.specs.Disjointness.{disjoint-step, disjoint}
 use Rattle.table.specs.Held.{held}
 use Rattle.views.specs.Seeing.{Asked, Readable, seen, Sees, Views}
 use Rattle.views.specs.declared.View.{View}
-use Rattle.views.proofs.Sights.{seen-range, seen-bool, views-rising, views-kids, views-inside, count-bool, known-held, known-used, first-is, sees-views, call-left}
+use Rattle.views.proofs.Sights.{seen-range, seen-bool, views-rising, views-kids, views-inside, bool-count-le-two, known-held, known-used, first-variable-is, sees-views, call-left}
 use Rattle.disjointness.specs.Asking.{apart, Sides}
 use Rattle.table.specs.Layout.{varAt, Store}
 
@@ -79,10 +79,10 @@ module _ {st : Store} {u n x y : ℕ} (r : Readable st u) (ax : Asked (held st u
 
     module _ {v : ℕ} {a b : View} (first : v ≡ min (varAt (st .nodes) (ref x - 1)) (varAt (st .nodes) (ref y - 1))) (sa : Sees (st .nodes) v x a) (sb : Sees (st .nodes) v y b) where
       ev : v ≡ min ((at t (ref x)) .var) ((at t (ref y)) .var)
-      ev = first-is r x y left-node (ax .known) right-node (ay .known) first .0
+      ev = first-variable-is r x y left-node (ax .known) right-node (ay .known) first .0
 
       hv : v < variables
-      hv = first-is r x y left-node (ax .known) right-node (ay .known) first .1
+      hv = first-variable-is r x y left-node (ax .known) right-node (ay .known) first .1
 
       va : Views st u v x a
       va = sees-views r x (ax .known) hv sa
@@ -131,7 +131,7 @@ module _ {st : Store} {u n x y : ℕ} (r : Readable st u) (ax : Asked (held st u
       range-answer h f = f ∙ sym (whole ∙ ap₂ (apart (n - 1) t) (seen-range (st .children) (st .cuts) v a 0 h) (seen-range (st .children) (st .cuts) v b 0 h))
 
       pub bool-sides : firstBoolean ≤ v → Sides st u firstBoolean (n - 1) a b × (a .count ≤ 2) × (b .count ≤ 2)
-      bool-sides h = (at-kind firstBoolean (rw (le-ltb v 32 h)) (λ w. seen-bool (st .children) (st .cuts) v w 0 h), count-bool st u v x a r hv left-child va h, count-bool st u v y b r hv right-child vb h)
+      bool-sides h = (at-kind firstBoolean (rw (le-ltb v 32 h)) (λ w. seen-bool (st .children) (st .cuts) v w 0 h), bool-count-le-two st u v x a r hv left-child va h, bool-count-le-two st u v y b r hv right-child vb h)
 
       pub bool-answer : firstBoolean ≤ v → {z : Bool} → z ≡ apart (n - 1) t (seen (st .children) (st .cuts) firstBoolean a 0) (seen (st .children) (st .cuts) firstBoolean b 0) → z ≡ disjoint n t x y
       bool-answer h f = f ∙ sym (whole ∙ ap₂ (apart (n - 1) t) (seen-bool (st .children) (st .cuts) v a 0 h) (seen-bool (st .children) (st .cuts) v b 0 h))

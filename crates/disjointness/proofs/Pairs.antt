@@ -10,13 +10,12 @@ use Rattle.diagram.specs.Pieces.{Pieces, last}
 use Rattle.diagram.specs.Table.{firstBoolean, Table}
 use Rattle.algebra.specs.Disjointness.{disjoint}
 use Rattle.table.specs.Held.{held}
-use Rattle.table.proofs.Laws.{split}
+use Rattle.table.proofs.Laws.{lt-or-le}
 use Rattle.views.specs.Seeing.{childSeen, seen}
 use Rattle.views.specs.declared.View.{View}
-use Rattle.views.proofs.Sights.{seen-one, seen-two}
+use Rattle.views.proofs.Sights.{seen-one, seen-two, first-seen}
 use Rattle.disjointness.specs.Asking.{apart, Sides}
 use Rattle.disjointness.proofs.Overlaps.{apart-not, apart-left-last, apart-right-last, apart-both, apart-one}
-use Rattle.disjointness.proofs.Walks.{first-seen}
 use Rattle.table.specs.Layout.{Store}
 
 module _ {st : Store} {u n : ℕ} {a b : View} (s : Sides st u firstBoolean n a b) where
@@ -45,7 +44,7 @@ module _ {st : Store} {u n : ℕ} {a b : View} (s : Sides st u firstBoolean n a 
     high-yes {w} {z} {r} h ha hb ew ez er = er ∙ (ap₂ (λ (c d : ℕ). disjoint n t c d) ew ez ∙ sym (⊎-elim (λ o. ⊎-elim (one-one o) (one-two o) (two-at-most b (s .right .some) hb)) (λ o. ⊎-elim (two-one o) (two-two o) (two-at-most b (s .right .some) hb)) (two-at-most a (s .left .some) ha)))
       where
         two-at-most : (v : View) → 1 ≤ v .count → v .count ≤ 2 → (v .count ≡ 1) ⊎ (v .count ≡ 2)
-        two-at-most v l m = ⊎-elim (λ o. inl (omega arith)) (λ o. inr (omega arith)) (split (v .count) 2)
+        two-at-most v l m = ⊎-elim (λ o. inl (omega arith)) (λ o. inr (omega arith)) (lt-or-le (v .count) 2)
 
         yes : disjoint n t (childSeen (st .children) a 0) (childSeen (st .children) b 0) ≡ true
         yes = sym high ∙ h

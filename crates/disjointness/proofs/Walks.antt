@@ -11,10 +11,10 @@ use Rattle.diagram.specs.Pieces.{Pieces, first, Each}
 use Rattle.diagram.specs.Table.{topOf, Table}
 use Rattle.algebra.specs.Disjointness.{disjoint}
 use Rattle.table.specs.Held.{held}
-use Rattle.table.proofs.Laws.{split}
+use Rattle.table.proofs.Laws.{lt-or-le}
 use Rattle.views.specs.Seeing.{Asked, Readable, beyond, childSeen, cutSeen, seen, Inside}
 use Rattle.views.specs.declared.View.{View}
-use Rattle.views.proofs.Sights.{seen-last, seen-cut, seen-each, rising-cut, inside-wider}
+use Rattle.views.proofs.Sights.{seen-last, seen-cut, seen-each, rising-cut, inside-wider, first-seen}
 use Rattle.disjointness.specs.Asking.{apart, Sides}
 use Rattle.disjointness.proofs.Overlaps.{apart-not, apart-left, apart-left-last, apart-right, apart-right-last, apart-both, apart-one}
 use Rattle.table.specs.Layout.{Store}
@@ -25,11 +25,7 @@ Ends cuts w j k = (j + 1 < w .count → k ≡ cutSeen cuts 0 w j) × (w .count �
 
 -- an edge whose cut is below another is no last one
 more-edges : (cuts : List ℤ) (w : View) (j k l : ℕ) → Ends cuts w j k → l ≤ beyond → k < l → j + 1 < w .count
-more-edges cuts w j k l e h g = ⊎-elim (λ m. m) (λ m. absurd (omega (arith, e .1 m))) (split (j + 1) (w .count))
-
--- the first edge that is left
-pub first-seen : (children : List ℕ) (cuts : List ℤ) (v : ℕ) (w : View) (j : ℕ) → j < w .count → first (seen children cuts v w j) ≡ childSeen children w j
-first-seen children cuts v w j h = ⊎-elim (λ m. ap first (seen-cut children cuts v w j m)) (λ m. ap first (seen-last children cuts v w j (omega arith))) (split (j + 1) (w .count))
+more-edges cuts w j k l e h g = ⊎-elim (λ m. m) (λ m. absurd (omega (arith, e .1 m))) (lt-or-le (j + 1) (w .count))
 
 -- a child of a view may be asked about
 pub asked-child : (children : List ℕ) (cuts : List ℤ) (t : Table) (u v n j x : ℕ) (w : View) → Each (Asked t u n) (seen children cuts v w 0) → j < w .count → x ≡ childSeen children w j → Asked t u n x
@@ -77,7 +73,7 @@ module _ {st : Store} {u n : ℕ} {a b : View} (s : Sides st u 0 n a b) where
 
       -- the left edge ends first
       pub walk-left : k < l → Turned n t (st .children) (st .cuts) a b (i + 1) j
-      walk-left g = record { going = λ o. record { inside = w .inside; same = sym (⊎-elim cuts-both last-right (split (j + 1) (b .count))) ∙ w .same }; over = λ o. absurd (omega (arith, m)) }
+      walk-left g = record { going = λ o. record { inside = w .inside; same = sym (⊎-elim cuts-both last-right (lt-or-le (j + 1) (b .count))) ∙ w .same }; over = λ o. absurd (omega (arith, m)) }
         where
           m : i + 1 < a .count
           m = more-edges (st .cuts) a i k l ek (el .2) g
@@ -98,7 +94,7 @@ module _ {st : Store} {u n : ℕ} {a b : View} (s : Sides st u 0 n a b) where
 
       -- the right edge ends first
       pub walk-right : l < k → Walked n t (st .children) (st .cuts) a b i (j + 1)
-      walk-right g = record { inside = m; same = sym (⊎-elim cuts-both last-left (split (i + 1) (a .count))) ∙ w .same }
+      walk-right g = record { inside = m; same = sym (⊎-elim cuts-both last-left (lt-or-le (i + 1) (a .count))) ∙ w .same }
         where
           m : j + 1 < b .count
           m = more-edges (st .cuts) b j l k el (ek .2) g
@@ -119,8 +115,8 @@ module _ {st : Store} {u n : ℕ} {a b : View} (s : Sides st u 0 n a b) where
 
       -- both end together, at a cut or as the last ones
       pub walk-both : k ≡ l → Turned n t (st .children) (st .cuts) a b (i + 1) (j + 1)
-      walk-both g = ⊎-elim (λ m. ⊎-elim (λ o. cuts-both m o) (λ o. absurd (omega (arith, ek .0 m, el .1 o, rising-cut (st .children) (st .cuts) 0 a (topOf 0) (s .left-rises) i m .1))) (split (j + 1) (b .count)))
-          (λ m. ⊎-elim (λ o. absurd (omega (arith, ek .1 m, el .0 o, rising-cut (st .children) (st .cuts) 0 b (topOf 0) (s .right-rises) j o .1))) (λ o. last-both m o) (split (j + 1) (b .count))) (split (i + 1) (a .count))
+      walk-both g = ⊎-elim (λ m. ⊎-elim (λ o. cuts-both m o) (λ o. absurd (omega (arith, ek .0 m, el .1 o, rising-cut (st .children) (st .cuts) 0 a (topOf 0) (s .left-rises) i m .1))) (lt-or-le (j + 1) (b .count)))
+          (λ m. ⊎-elim (λ o. absurd (omega (arith, ek .1 m, el .0 o, rising-cut (st .children) (st .cuts) 0 b (topOf 0) (s .right-rises) j o .1))) (λ o. last-both m o) (lt-or-le (j + 1) (b .count))) (lt-or-le (i + 1) (a .count))
         where
           cuts-both : i + 1 < a .count → j + 1 < b .count → Turned n t (st .children) (st .cuts) a b (i + 1) (j + 1)
           cuts-both m o =

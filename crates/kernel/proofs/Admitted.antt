@@ -15,7 +15,7 @@ use Rattle.diagram.specs.Table.{Table}
 use Rattle.algebra.specs.Conditions.{from-range, comparison, from-bool}
 use Rattle.table.specs.Deciding.{Decides}
 use Rattle.table.specs.Told.{done, Checks, checked-1, checked-2, checked-0}
-use Rattle.table.proofs.Laws.{proved, refuted}
+use Rattle.table.proofs.Laws.{decided-true, decided-false}
 use Rattle.making.specs.declared.nodes.Used.{Used}
 use Rattle.making.specs.declared.nodes.Made.{Made}
 use Rattle.making.specs.Outcome.{Lent, Creates, tableOf}
@@ -41,14 +41,14 @@ module _ {st : Store} {index : List ℕ} where
   pub admitted-lent : {kind : Type 0} {b : Bool} {k : ℕ} {h : Used} → Decides kind b → Admits st index b k h → k ≡ done → Lent h st index × kind
   admitted-lent d (not-lent b h c n) q = absurd (n q)
   admitted-lent d (not-kind h l) q = absurd (omega arith)
-  admitted-lent d (admitted h l) q = (l, proved d refl)
+  admitted-lent d (admitted h l) q = (l, decided-true d refl)
 
 module _ (kind : Type 0) (want : Table → Table × ℕ) (st : Store) (index : List ℕ) where
   -- rows 1, 2 and 4
   pub condition-refused : {b : Bool} {k n id : ℕ} {h : Used} → Decides kind b → Admits st index b k h → (k ≡ done → ⊥) → (n ≡ k) × (id ≡ FALSE)
       → Conditions st index kind want n id st index
   condition-refused d (not-lent b h c f) x q = rw (q .0, q .1) (check-refuses _ _ kind want st index [] (λ a. a) (λ a. a) c f)
-  condition-refused d (not-kind h l) x q = rw (q .0, q .1) (made-4 (l .allowed) (h .nodes) (l .sound) tt (refuted d refl))
+  condition-refused d (not-kind h l) x q = rw (q .0, q .1) (made-4 (l .allowed) (h .nodes) (l .sound) tt (decided-false d refl))
   condition-refused d (admitted h l) x q = absurd (x refl)
 
   -- rows 6 and 0, from what was made

@@ -14,7 +14,7 @@ use Rattle.algebra.specs.Changing.{restrict, narrow, widen}
 use Rattle.table.specs.Layout.{room, Store}
 use Rattle.table.specs.Deciding.{Decides}
 use Rattle.table.specs.Told.{done}
-use Rattle.table.proofs.Laws.{proved, refuted}
+use Rattle.table.proofs.Laws.{decided-true, decided-false}
 use Rattle.making.specs.declared.nodes.Used.{Used}
 use Rattle.making.specs.declared.nodes.Made.{Made}
 use Rattle.making.specs.Outcome.{Lent, tableOf}
@@ -44,7 +44,7 @@ ids-lent d (ids-not-long b h f) g = absurd (omega arith)
 ids-lent d (ids-not-lent b h e c f) g = absurd (f g)
 ids-lent d (ids-not-known b h e l f) g = absurd (omega arith)
 ids-lent d (ids-not-kind h e l a) g = absurd (omega arith)
-ids-lent d (ids-admitted h e l a) g = (l, e, a, proved d refl)
+ids-lent d (ids-admitted h e l a) g = (l, e, a, decided-true d refl)
 
 -- a memo that was cleared is as long as it was, and every word of it is zero
 pub cleared-long : {zeros : List ℕ} (memo : List ℕ) → zeros ≡ replicate (length memo) 0 → length zeros ≡ length memo
@@ -61,7 +61,7 @@ module _ (known : ℕ → Type 0) (kind : Type 0) (want : Table → Table × ℕ
   ids-refused d (ids-not-long b h f) g q = rw (q .0, q .1) (made-1 (λ l. f (l .1)))
   ids-refused d (ids-not-lent b h e c f) g q = rw (q .0, q .1) (check-refuses _ known kind want st index memo (λ a. (a, e)) (λ l. l .0) c f)
   ids-refused d (ids-not-known b h e l f) g q = rw (q .0, q .1) (made-3 (l .allowed, e) (h .nodes) (l .sound) (λ a. f (back (h .nodes) a)))
-  ids-refused d (ids-not-kind h e l a) g q = rw (q .0, q .1) (made-4 (l .allowed, e) (h .nodes) (l .sound) (to (h .nodes) a) (refuted d refl))
+  ids-refused d (ids-not-kind h e l a) g q = rw (q .0, q .1) (made-4 (l .allowed, e) (h .nodes) (l .sound) (to (h .nodes) a) (decided-false d refl))
   ids-refused d (ids-admitted h e l a) g q = absurd (g refl)
 
   -- rows 6 and 0, from what the operation leaves: its memo was cleared before it, and is cleared after it

@@ -9,8 +9,8 @@ use borrow.Author.Tests.{ltb-true, ltb-false}
 use Rattle.ids.specs.Id.{ref}
 use Rattle.ids.specs.Index.{KnownTo}
 use Rattle.table.specs.Deciding.{Decides, holds, fails}
-use Rattle.table.proofs.Laws.{split}
-use Rattle.table.proofs.Hearing.{known, unknown}
+use Rattle.table.proofs.Laws.{lt-or-le}
+use Rattle.table.proofs.Hearing.{known-when-true, unknown-when-false}
 
 -- a number below a limit, as the code has it
 pub decides-below : {w v : ℕ} (n : ℕ) → w ≡ v → Decides (v < n) (ltb w n)
@@ -21,12 +21,12 @@ decides-below {w} {v} n e = go (ltb w n) refl
     go false h = fails (λ l. omega (arith, ltb-false w n h))
 
 pub not-below : {v n : ℕ} → (v < n → ⊥) → n ≤ v
-not-below {v} {n} f = ⊎-elim (λ l. absurd (f l)) (λ l. l) (split v n)
+not-below {v} {n} f = ⊎-elim (λ l. absurd (f l)) (λ l. l) (lt-or-le v n)
 
 -- an id that is known
 pub decides-known : (u id : ℕ) {b : Bool} → b ≡ leb (ref id) u → Decides (KnownTo u id) b
-decides-known u id {b = true} e = holds (known u id e refl)
-decides-known u id {b = false} e = fails (unknown u id e refl)
+decides-known u id {b = true} e = holds (known-when-true u id e refl)
+decides-known u id {b = false} e = fails (unknown-when-false u id e refl)
 
 -- both of two: by the second where the first holds, and no where it fails
 pub decides-second : {P Q : Type 0} {b : Bool} → P → Decides Q b → Decides (P × Q) b

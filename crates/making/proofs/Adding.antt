@@ -16,7 +16,7 @@ use Rattle.table.specs.Lent.{Rules, SameRecord, SoundLent}
 use Rattle.table.specs.Held.{nodeAt, held}
 use Rattle.making.specs.Growing.{MoreWords, MoreIndex, OneMore}
 use Rattle.making.proofs.Frames.{Agree, start-agrees, node-agrees}
-use Rattle.making.proofs.Grown.{grown, held-grown, start-grown}
+use Rattle.making.proofs.Grown.{sound-grown, held-grown, start-grown}
 use Rattle.making.specs.declared.edges.Edges as built
 use Rattle.making.specs.declared.nodes.Used.{Used}
 use Rattle.making.specs.Building.{childIn, nodeOf, hashIn, Matches}
@@ -124,7 +124,7 @@ module _ {h : Used} {st : Store} {index : List ℕ} (l : Lent h st index) {v lea
       record {
         lent = record {
           allowed = allowed-same (l .allowed) (q .long) (p .wide) (p .deep) (simp length-set refl);
-          sound = subst (SoundLent st′ index′) a (grown (l .sound) (l .edges) (omega arith) more rules alone);
+          sound = subst (SoundLent st′ index′) a (sound-grown (l .sound) (l .edges) (omega arith) more rules alone);
           edges = sym (ap (start (st′ .nodes)) (sym a) ∙ (start-grown (l .sound) (l .edges) more ∙ ap (λ (i : ℕ). e + i) (q .counts)));
         };
         stays = record {

@@ -9,7 +9,7 @@ use Rattle.diagram.specs.Table.{firstBoolean, topOf}
 use Rattle.diagram.proofs.Numbered.{first-run, run-shift}
 use Rattle.diagram.proofs.Readings.{range-top, bool-top}
 use Rattle.table.proofs.Bridge.{kid-of, cut-of}
-use Rattle.table.proofs.Laws.{split}
+use Rattle.table.proofs.Laws.{lt-or-le}
 use Rattle.making.specs.declared.edges.Edges as built
 use Rattle.making.specs.Building.{childIn, cutIn, piecesOf}
 
@@ -55,7 +55,7 @@ step-of b t c k (suc m) r (suc j) l = shift j (step-of (k 0) t (λ i. c (suc i))
     shift i s = record { above = omega (arith, s .above, before i); within = s .within; differ = λ q. s .differ (q ∙ ap c (let a : suc i + 1 ≡ suc (i + 1) = omega arith in a)) }
 
 top-most : (v : ℕ) → topOf v ≤ top
-top-most v = ⊎-elim (λ h. omega (arith, range-top v h)) (λ h. omega (arith, bool-top v h)) (split v firstBoolean)
+top-most v = ⊎-elim (λ h. omega (arith, range-top v h)) (λ h. omega (arith, bool-top v h)) (lt-or-le v firstBoolean)
 
 -- The cuts of a node under construction are at most at the top; a boolean one has two edges, and its cut is 1.
 module _ (v : ℕ) (es : built.Edges) (red : Reduced 0 (topOf v) (piecesOf es)) where
@@ -69,7 +69,7 @@ module _ (v : ℕ) (es : built.Edges) (red : Reduced 0 (topOf v) (piecesOf es)) 
   cut-small j l = omega (arith, cut-most j l)
 
   pub bool-two : firstBoolean ≤ v → 2 ≤ es .len → es .len ≡ 2
-  bool-two h m = ⊎-elim (λ l. absurd (omega (arith, step-in 0 (omega arith) .above, step-in 1 l .above, step-in 1 l .within, bool-top v h))) (λ g. omega arith) (split 2 (es .len))
+  bool-two h m = ⊎-elim (λ l. absurd (omega (arith, step-in 0 (omega arith) .above, step-in 1 l .above, step-in 1 l .within, bool-top v h))) (λ g. omega arith) (lt-or-le 2 (es .len))
 
   pub bool-cut : firstBoolean ≤ v → 2 ≤ es .len → cutIn es 0 ≡ 1
   bool-cut h m = omega (arith, step-in 0 (omega arith) .above, step-in 0 (omega arith) .within, bool-top v h)

@@ -14,10 +14,10 @@ use Rattle.diagram.specs.Cofactor.{map}
 use Rattle.diagram.specs.Room.{Fits}
 use Rattle.algebra.specs.Making.{find, intern, settle, firstSign}
 use Rattle.algebra.specs.Overlay.{merge}
-use Rattle.algebra.proofs.Making.{found}
+use Rattle.algebra.proofs.Making.{find-found}
 use Rattle.algebra.proofs.Overlays.{reduced-merge, each-merge}
 use Rattle.table.specs.Layout.{mostNodes, room, Store}
-use Rattle.table.proofs.Laws.{clash}
+use Rattle.table.proofs.Laws.{not-false-and-true}
 use Rattle.table.proofs.Scan.{table-length}
 use Rattle.table.proofs.Promises.{counts-what-is-held}
 use Rattle.merging.proofs.Fitting.{intern-added, intern-found}
@@ -26,7 +26,7 @@ use Rattle.making.specs.declared.nodes.Used.{Used}
 use Rattle.making.specs.Building.{Building, childIn, cutIn, piecesOf, nodeOf}
 use Rattle.making.specs.Outcome.{Lent, Creates, Added, Buildable, Mergeable, tableOf}
 use Rattle.making.proofs.Matching.{count-of-node}
-use Rattle.making.proofs.Kept.{stays-here}
+use Rattle.making.proofs.Kept.{stays-refl}
 
 -- One edge is no node,
 settle-run : (t : Table) (v : ℕ) (c k : ℕ → ℕ) (m : ℕ) → m ≡ 0 → settle t v (run c k 0 m) ≡ (t, c 0)
@@ -51,10 +51,10 @@ module _ {h : Used} {st : Store} {index : List ℕ} (l : Lent h st index) (v : �
 
   -- Refs are small.
   pub ref-small : (nd : Node) (at : ℕ) → at ≡ find t nd → at ≤ mostNodes
-  ref-small nd at e = omega (arith, found t nd .inside, table-length st (h .nodes), l .sound .records .fits, l .allowed .most-nodes)
+  ref-small nd at e = omega (arith, find-found t nd .inside, table-length st (h .nodes), l .sound .records .fits, l .allowed .most-nodes)
 
   kept : (id : NodeId) → settle t v (piecesOf es) ≡ (t, id .0) → Creates h (settle t v (piecesOf es)) (record { ok = true; id = id; used = h }) st index st index
-  kept id e = record { outcome = record { lent = l; stays = stays-here; table = λ q. sym (ap (λ (x : Table × ℕ). x .0) e); id = λ q. sym (ap (λ (x : Table × ℕ). x .1) e); full = λ q. absurd (clash q refl) }; untouched = λ q. absurd (clash q refl) }
+  kept id e = record { outcome = record { lent = l; stays = stays-refl; table = λ q. sym (ap (λ (x : Table × ℕ). x .0) e); id = λ q. sym (ap (λ (x : Table × ℕ). x .1) e); full = λ q. absurd (not-false-and-true q refl) }; untouched = λ q. absurd (not-false-and-true q refl) }
 
   pub dropped : es .len ≡ 1 → (id : NodeId) → id .0 ≡ childIn es 0 → Creates h (settle t v (piecesOf es)) (record { ok = true; id = id; used = h }) st index st index
   dropped one id e = kept id (settle-run t v (childIn es) (cutIn es) (es .len - 1) (omega arith) ∙ ap (λ (x : ℕ). (t, x)) (sym e))
@@ -78,9 +78,9 @@ module _ {h : Used} {st : Store} {index : List ℕ} (l : Lent h st index) (v : �
       no-room g id = record {
         outcome = record {
           lent = l;
-          stays = stays-here;
-          table = λ q. absurd (clash refl q);
-          id = λ q. absurd (clash refl q);
+          stays = stays-refl;
+          table = λ q. absurd (not-false-and-true refl q);
+          id = λ q. absurd (not-false-and-true refl q);
           full = λ q f. g (over (subst (λ (x : Table × ℕ). Fits (room (st .nodes)) (length (st .children)) (x .0)) wanted f));
         };
         untouched = λ q. record { same = refl; index-same = refl };
@@ -96,9 +96,9 @@ module _ {h : Used} {st : Store} {index : List ℕ} (l : Lent h st index) (v : �
           stays = a .stays;
           table = λ x. a .table ∙ sym (ap (λ (y : Table × ℕ). y .0) wanted);
           id = λ x. q ∙ (id-under (h′ .nodes) s (omega arith) ∙ (same-id ∙ sym (ap (λ (y : Table × ℕ). y .1) wanted)));
-          full = λ x. absurd (clash x refl);
+          full = λ x. absurd (not-false-and-true x refl);
         };
-        untouched = λ x. absurd (clash x refl);
+        untouched = λ x. absurd (not-false-and-true x refl);
       }
         where
           same-id : 2 * h′ .nodes + s ≡ 2 * suc (length t) + s

@@ -8,15 +8,15 @@ use lib.IntN.{ℤ}
 use Rattle.diagram.specs.Pieces.{Reduced}
 use Rattle.diagram.specs.Table.{topOf, Node, Table, at}
 use Rattle.diagram.specs.Sound.{Sound}
-use Rattle.diagram.proofs.Facts.{distinct}
+use Rattle.diagram.proofs.Facts.{at-inj}
 use Rattle.algebra.specs.Making.{find}
-use Rattle.algebra.proofs.Making.{found}
+use Rattle.algebra.proofs.Making.{find-found}
 use Rattle.table.specs.Layout.{room, Store}
 use Rattle.table.specs.Indexed.{bucketAt}
 use Rattle.table.specs.Lent.{SoundLent}
 use Rattle.table.specs.Held.{nodeAt, held}
-use Rattle.table.proofs.Chain.{Order, less, equal, more, order}
-use Rattle.table.proofs.Bridge.{table-at, ordered}
+use Rattle.table.proofs.Chain.{Order, less, equal, more, lt-eq-or-gt}
+use Rattle.table.proofs.Bridge.{at-held, sound-held}
 use Rattle.table.proofs.Scan.{table-length}
 use Rattle.making.specs.declared.edges.Edges as built
 use Rattle.making.specs.Building.{piecesOf, nodeOf, hashIn, Matches}
@@ -27,23 +27,23 @@ pub found-at : (t : Table) (nd : Node) (n : ℕ) → Sound t → n < length t �
 found-at t nd n z l e = go (find t nd) refl
   where
     go : (r : ℕ) → find t nd ≡ r → find t nd ≡ suc n
-    go zero q = absurd (found t nd .absent q (suc n) (omega arith) (omega arith) e)
-    go (suc r) q = distinct t z (find t nd) (suc n) (found t nd .inside) (omega arith) (found t nd .there (omega (arith, q)) ∙ sym e)
+    go zero q = absurd (find-found t nd .absent q (suc n) (omega arith) (omega arith) e)
+    go (suc r) q = at-inj t z (find t nd) (suc n) (find-found t nd .inside) (omega arith) (find-found t nd .there (omega (arith, q)) ∙ sym e)
 
 pub found-none : (t : Table) (nd : Node) → ((n : ℕ) → n < length t → at t (suc n) ≡ nd → ⊥) → find t nd ≡ 0
 found-none t nd h = go (find t nd) refl
   where
     go : (r : ℕ) → find t nd ≡ r → find t nd ≡ 0
     go zero q = q
-    go (suc r) q = absurd (h r (omega (arith, q, found t nd .inside)) (ap (at t) (sym q) ∙ found t nd .there (omega (arith, q))))
+    go (suc r) q = absurd (h r (omega (arith, q, find-found t nd .inside)) (ap (at t) (sym q) ∙ find-found t nd .there (omega (arith, q))))
 
 -- and so does a lent table
 module _ (st : Store) (u : ℕ) (nd : Node) where
   pub found-record : (index : List ℕ) (n : ℕ) → SoundLent st index u → n < u → nodeAt st n ≡ nd → find (held st u) nd ≡ suc n
-  found-record index n z l e = found-at (held st u) nd n (ordered st index u z) (omega (arith, table-length st u)) (table-at st u n l ∙ e)
+  found-record index n z l e = found-at (held st u) nd n (sound-held st index u z) (omega (arith, table-length st u)) (at-held st u n l ∙ e)
 
   pub found-nothing : ((n : ℕ) → n < u → nodeAt st n ≡ nd → ⊥) → find (held st u) nd ≡ 0
-  found-nothing h = found-none (held st u) nd (λ n l e. let g : n < u = omega (arith, table-length st u) in h n g (sym (table-at st u n g) ∙ e))
+  found-nothing h = found-none (held st u) nd (λ n l e. let g : n < u = omega (arith, table-length st u) in h n g (sym (at-held st u n g) ∙ e))
 
 -- How far a walk down the node's bucket has come: x is one more than a record of the bucket, or 0, and no record from x on matches.
 pub record Looked (st : Store) (u v s : ℕ) (es : built.Edges) (bucket x : ℕ) : Type 0 where
@@ -77,7 +77,7 @@ module _ (st : Store) (index : List ℕ) (u v s : ℕ) (es : built.Edges) (bucke
     look-next other = let w = z .indexed .nexts (at - 1) inside in record {
       within = omega (arith, look-less, q .within);
       own = λ m g. w .own m (sym e ∙ g) ∙ same-bucket;
-      rest = λ k l g m. go k l g m (order k (at - 1));
+      rest = λ k l g m. go k l g m (lt-eq-or-gt k (at - 1));
     }
       where
         go : (k : ℕ) → x ≤ k → k < u → Matches st k v s es → Order k (at - 1) → ⊥

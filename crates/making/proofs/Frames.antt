@@ -70,7 +70,7 @@ module _ {u e : ℕ} {st : Store} {st′ : Store} (a : Agree u e st st′) where
       λ k. cut (p k) (cutPosition (q k)) (r k)
 
   edges-at-agree : (v f c : ℕ) → 2 ≤ c → f + c ≤ e → edgesAt (st′ .children) (st′ .cuts) v f c ≡ edgesAt (st .children) (st .cuts) v f c
-  edges-at-agree v f c two h = ⊎-elim ranges booleans (laws.split v 32)
+  edges-at-agree v f c two h = ⊎-elim ranges booleans (laws.lt-or-le v 32)
     where
       ranges : v < 32 → edgesAt (st′ .children) (st′ .cuts) v f c ≡ edgesAt (st .children) (st .cuts) v f c
       ranges l = range-edges (st′ .children) (st′ .cuts) v f c l ∙ (edges-from-agree f (c - 1) (omega arith) ∙ sym (range-edges (st .children) (st .cuts) v f c l))
@@ -85,7 +85,7 @@ module _ {u e : ℕ} {st : Store} {st′ : Store} (a : Agree u e st st′) where
   hash-agrees : (v f j : ℕ) → f + j ≤ e → hashTo (st′ .children) (st′ .cuts) v f j ≡ hashTo (st .children) (st .cuts) v f j
   unfolding hashTo
   hash-agrees v f zero h = refl
-  hash-agrees v f (suc j) h = laws.mixed (hash-agrees v f j (omega arith)) (a .child (f + j) (omega arith)) (ap cutPosition (a .cut (f + j) (omega arith)))
+  hash-agrees v f (suc j) h = laws.mix-at-equal (hash-agrees v f j (omega arith)) (a .child (f + j) (omega arith)) (ap cutPosition (a .cut (f + j) (omega arith)))
 
   kids-agree : (n v f c : ℕ) → n < u → f + c ≤ e → KidsStand (st .nodes) (st .children) n v f c → KidsStand (st′ .nodes) (st′ .children) n v f c
   kids-agree n v f c l h k = record {
@@ -126,9 +126,9 @@ module _ {u e : ℕ} {st : Store} {st′ : Store} (a : Agree u e st st′) where
       packed = f ∙ (r .packed ∙ sym (start-agrees n (omega arith)));
       inside = omega (arith, f, c, wide, r .inside);
       plain = ap (λ (i : ℕ). sign (kidAt (st′ .children) i)) f ∙ (ap sign (a .child (firstAt (st .nodes) n) (omega (arith, h, r .many))) ∙ r .plain);
-      edges = laws.kids-at (sym v) (sym f) (sym c) (kids-agree n (varAt (st .nodes) n) (firstAt (st .nodes) n) (countAt (st .nodes) n) l h (r .edges));
+      edges = laws.kids-stand-at-equal (sym v) (sym f) (sym c) (kids-agree n (varAt (st .nodes) n) (firstAt (st .nodes) n) (countAt (st .nodes) n) l h (r .edges));
       ranges = λ b. cuts-at (sym f) (sym c) (cuts-agree (firstAt (st .nodes) n) (countAt (st .nodes) n) (r .many) h (r .ranges (omega (arith, v, b))));
-      booleans = λ b. laws.blank-at (sym f) (blank-agrees (firstAt (st .nodes) n) (omega (arith, h, r .many)) (r .booleans (omega (arith, v, b))));
+      booleans = λ b. laws.blank-at-equal (sym f) (blank-agrees (firstAt (st .nodes) n) (omega (arith, h, r .many)) (r .booleans (omega (arith, v, b))));
     }
       where
         r : Rules st n
@@ -193,7 +193,7 @@ module _ {u e : ℕ} {st : Store} {st′ : Store} (a : Agree u e st st′) where
         count = sym (count-agrees m k) ∙ (s .count ∙ count-agrees n l)
 
         run : SameRun (st′ .children) (st′ .cuts) (firstAt (st .nodes) m) (firstAt (st .nodes) n) (countAt (st .nodes) n)
-        run = laws.same-at (first-agrees m k) (first-agrees n l) (count-agrees n l) (s .edges)
+        run = laws.same-run-at-equal (first-agrees m k) (first-agrees n l) (count-agrees n l) (s .edges)
 
         child : (j : ℕ) → j < countAt (st .nodes) n → kidAt (st .children) (firstAt (st .nodes) m + j) ≡ kidAt (st .children) (firstAt (st .nodes) n + j)
         child j b = sym (a .child (firstAt (st .nodes) m + j) (omega (arith, inside-agreed m k, count))) ∙ (run .child j b ∙ a .child (firstAt (st .nodes) n + j) (omega (arith, inside-agreed n l)))

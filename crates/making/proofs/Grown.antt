@@ -56,7 +56,7 @@ module _ {u e : ℕ} {st : Store} {index : List ℕ} {st′ : Store} {index′ :
     head c l = go (ℕ-discrete c b)
       where
         go : Dec (c ≡ b) → LastIn (bucketAt st′) c (suc u) (getD index′ c 0)
-        go (yes q) = subst (LastIn (bucketAt st′) c (suc u)) (sym (laws.at index′ c b q ∙ more .indexed .front)) (last-new (sym q))
+        go (yes q) = subst (LastIn (bucketAt st′) c (suc u)) (sym (laws.getD-at-equal index′ c b q ∙ more .indexed .front)) (last-new (sym q))
         go (no q) = subst (LastIn (bucketAt st′) c (suc u)) (sym (word-other c q (λ x. omega arith))) (last-join (λ x. q (sym x)) (last-agrees bucket-same (s .indexed .heads c l)))
 
     -- the node before each in its bucket
@@ -96,7 +96,7 @@ module _ {u e : ℕ} {st : Store} {index : List ℕ} {st′ : Store} {index′ :
           known n l = eq-or-lt-of-le (let a : n ≤ u = omega arith in a)
 
 -- a sound table grows by a record that keeps the rules and is new
-pub grown : {u e : ℕ} {st : Store} {index : List ℕ} {st′ : Store} {index′ : List ℕ}
+pub sound-grown : {u e : ℕ} {st : Store} {index : List ℕ} {st′ : Store} {index′ : List ℕ}
     → SoundLent st index u → e ≡ start (st .nodes) u → suc u ≤ room (st .nodes) → OneMore u e st index st′ index′
     → Rules st′ u → ((m : ℕ) → m < u → SameRecord st′ m u → ⊥) → SoundLent st′ index′ (suc u)
-grown s at-end place more new fresh = sound s at-end more place new fresh
+sound-grown s at-end place more new fresh = sound s at-end more place new fresh

@@ -25,8 +25,8 @@ pub edges-inside : {h : Used} {st : Store} {index : List ℕ} → Lent h st inde
 edges-inside {h} {st} {index} l = omega (arith, fits-its-room st index (h .nodes) (l .sound) .edgesFit, counts-what-is-held st index (h .nodes) (l .sound) .1, l .edges)
 
 module _ {h : Used} {st : Store} where
-  pub stays-here : Stays h st h st
-  stays-here = record {
+  pub stays-refl : Stays h st h st
+  stays-refl = record {
     long = refl;
     wide = refl;
     nodes-more = omega arith;
@@ -62,8 +62,8 @@ module _ {h h′ : Used} {st : Store} {index : List ℕ} {st′ : Store} (l : Le
   held-still = held-agrees stays-agree (l .sound .records .rules) (omega (arith, l .edges)) (h .nodes) (omega arith)
 
   -- so the new table continues the old.
-  pub continued : Continues (tableOf h st) (tableOf h′ st′)
-  continued = subst (λ (t : Table). Continues t (tableOf h′ st′)) held-still (longer st′ (h .nodes) (h′ .nodes) (s .nodes-more))
+  pub stays-continues : Continues (tableOf h st) (tableOf h′ st′)
+  stays-continues = subst (λ (t : Table). Continues t (tableOf h′ st′)) held-still (longer st′ (h .nodes) (h′ .nodes) (s .nodes-more))
 
 module _ {u w : ℕ} {h i j : Used} {st : Store} {st′ : Store} {index′ : List ℕ} {st″ : Store} {index″ : List ℕ} where
   -- Taking back goes on where it stopped.

@@ -13,7 +13,7 @@ use Rattle.table.specs.Layout.{varAt, countAt, firstAt, kidAt, cutAt, room, sta
 use Rattle.table.specs.Indexed.{hashTo, bucketAt}
 use Rattle.table.specs.Lent.{Rules}
 use Rattle.table.specs.Held.{edgesFrom, nodeAt}
-use Rattle.table.proofs.Laws.{split, mixed}
+use Rattle.table.proofs.Laws.{lt-or-le, mix-at-equal}
 use Rattle.table.proofs.Bridge.{kid-of, cut-of, edges-run, range-edges, bool-edges}
 use Rattle.table.proofs.Determined.{count-node, kid-node, cut-position-node, no-cut-last, no-cut-bool}
 use Rattle.making.specs.declared.edges.Edges as built
@@ -68,7 +68,7 @@ module _ {st : Store} {n v s : ℕ} {es : built.Edges} (two : 2 ≤ es .len) (re
   pub matches-node : nodeAt st n ≡ nodeOf v s es
   matches-node =
       let p = m .variable in
-      let q = ⊎-elim range-same bool-same (split v 32) in
+      let q = ⊎-elim range-same bool-same (lt-or-le v 32) in
       λ i. record { var = p i; edges = q i }
 
 -- and a record that is the node matches
@@ -77,7 +77,7 @@ node-matches {st} {n} {v} {s} {es} r some q = record {
   variable = same-var;
   count = same-count;
   child = λ j l. ap (λ (i : ℕ). kidAt (st .children) (i + j)) (r .packed) ∙ sym (kid-node st n r j (omega (arith, same-count))) ∙ ap (λ (e : Pieces ℕ). kid-of e j) edges ∙ kid-of-node v s es j l;
-  cut = λ j l. ap (λ (i : ℕ). cutPosition (cutAt (st .cuts) (i + j))) (r .packed) ∙ at-start j l (split v 32) (split (j + 1) (es .len));
+  cut = λ j l. ap (λ (i : ℕ). cutPosition (cutAt (st .cuts) (i + j))) (r .packed) ∙ at-start j l (lt-or-le v 32) (lt-or-le (j + 1) (es .len));
 }
   where
     edges : nodeAt st n .edges ≡ nodeOf v s es .edges
@@ -99,7 +99,7 @@ module _ {st : Store} {n v s : ℕ} {es : built.Edges} (m : Matches st n v s es)
   hash-to : (j : ℕ) → j ≤ es .len → hashTo (st .children) (st .cuts) (varAt (st .nodes) n) (firstAt (st .nodes) n) j ≡ hashIn v s es j
   unfolding hashTo hashIn
   hash-to zero h = let e = m .variable in omega arith
-  hash-to (suc j) h = mixed (hash-to j (omega arith)) (m .child j (omega arith)) (m .cut j (omega arith))
+  hash-to (suc j) h = mix-at-equal (hash-to j (omega arith)) (m .child j (omega arith)) (m .cut j (omega arith))
 
   pub hash-matches : hashTo (st .children) (st .cuts) (varAt (st .nodes) n) (firstAt (st .nodes) n) (countAt (st .nodes) n) ≡ hashIn v s es (es .len)
   hash-matches = ap (hashTo (st .children) (st .cuts) (varAt (st .nodes) n) (firstAt (st .nodes) n)) (m .count) ∙ hash-to (es .len) (omega arith)

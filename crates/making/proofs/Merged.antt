@@ -8,11 +8,11 @@ use Rattle.ids.specs.declared.NodeId.{NodeId}
 use Rattle.diagram.specs.Pieces.{Pieces, last, cut, run}
 use Rattle.diagram.specs.Room.{mostEdges}
 use Rattle.algebra.specs.Overlay.{merge}
-use Rattle.merging.proofs.Gluing.{Glue, Put, glue-none, glue-step, glue-last}
+use Rattle.merging.proofs.Gluing.{Glue, Put, glue-none, glue-step, run-is-merge}
 use Rattle.making.specs.declared.edges.Edge.{Edge}
 use Rattle.making.specs.declared.edges.Edges as built
 use Rattle.making.specs.Building.{Building, childIn, cutIn, piecesOf}
-use Rattle.making.proofs.Slots.{stored, stored-size, stored-other, stored-child, stored-cut, SlotFor, put, slot-most}
+use Rattle.making.proofs.Slots.{stored, stored-size, stored-other, stored-child, stored-cut, SlotFor, stored-is-put, slot-most}
 
 module _ (es : built.Edges) where
   -- the edges from edge j on: its edge alone where that is the last, else its edge and those after it
@@ -78,14 +78,14 @@ module _ {es : built.Edges} (w : Building es) where
 
       -- e stands in its slot, and either there are edges after it or all are put
       put-it : Put (childIn out) (cutIn out) c k len s (e .child .0)
-      put-it = put out (x .size) len (final .0) (e .child .0) s (x .last-is) sf e refl fits
+      put-it = stored-is-put out (x .size) len (final .0) (e .child .0) s (x .last-is) sf e refl fits
 
       more : j + 1 < es .len → Glue c k (s + 1) (piecesOf es) (rest es (j + 1))
       more l = glue-step (childIn out) (cutIn out) c k len s (e .child .0) (e .cut) (piecesOf es) (rest es (j + 1))
           (subst (Glue (childIn out) (cutIn out) len (piecesOf es)) (rest-cut es j l ∙ ap₂ (λ (b p : ℕ). cut b p (rest es (j + 1))) own-kid own-cut) (x .going on)) put-it (stored-cut out s e (x .size) fits)
 
       all : es .len ≤ j + 1 → run c k 0 s ≡ merge (piecesOf es)
-      all l = glue-last (childIn out) (cutIn out) c k len s (e .child .0) (piecesOf es) (subst (Glue (childIn out) (cutIn out) len (piecesOf es)) (rest-last es j (omega arith) ∙ ap last own-kid) (x .going on)) put-it
+      all l = run-is-merge (childIn out) (cutIn out) c k len s (e .child .0) (piecesOf es) (subst (Glue (childIn out) (cutIn out) len (piecesOf es)) (rest-last es j (omega arith) ∙ ap last own-kid) (x .going on)) put-it
 
       -- one turn of the loop
       pub merging-next : Merging es (stored out s e) (e .child) (s + 1) (j + 1)

@@ -11,10 +11,10 @@ use Rattle.table.specs.Layout.{varAt, countAt, firstAt, kidAt, cutAt, room, sta
 use Rattle.table.specs.Indexed.{hashTo, bucketAt}
 use Rattle.table.specs.Lent.{Rules, SoundLent}
 use Rattle.table.proofs.Laws as laws
-use Rattle.table.proofs.Determined.{last-one}
+use Rattle.table.proofs.Determined.{last-in-unique}
 use Rattle.making.specs.Growing.{MoreWords, MoreIndex, OneMore}
 use Rattle.making.proofs.Lasts.{last-new}
-use Rattle.making.proofs.Shrunk.{shrunk, start-shrunk}
+use Rattle.making.proofs.Shrunk.{sound-shrunk, start-shrunk}
 use Rattle.making.specs.declared.nodes.Used.{Used}
 use Rattle.making.specs.Storing.{EdgesBlank, RecordPut}
 use Rattle.making.specs.Outcome.{Lent, TakenBack}
@@ -57,10 +57,10 @@ module _ {h : Used} {st : Store} {index : List ℕ} (l : Lent h st index) (u : �
       span i (inr g) = inr (omega (arith, count))
 
       blank : (i k : ℕ) → i ≡ u * 4 + k → k < 4 → getD (st′ .nodes) i 0 ≡ 0
-      blank i zero x g = let a : i ≡ u * 4 = omega arith in laws.at (st′ .nodes) i (u * 4) a ∙ q .variable
-      blank i (suc zero) x g = laws.at (st′ .nodes) i (u * 4 + 1) x ∙ q .counts
-      blank i (suc (suc zero)) x g = laws.at (st′ .nodes) i (u * 4 + 2) x ∙ q .firsts
-      blank i (suc (suc (suc zero))) x g = laws.at (st′ .nodes) i (u * 4 + 3) x ∙ (q .spare ∙ rules .spare)
+      blank i zero x g = let a : i ≡ u * 4 = omega arith in laws.getD-at-equal (st′ .nodes) i (u * 4) a ∙ q .variable
+      blank i (suc zero) x g = laws.getD-at-equal (st′ .nodes) i (u * 4 + 1) x ∙ q .counts
+      blank i (suc (suc zero)) x g = laws.getD-at-equal (st′ .nodes) i (u * 4 + 2) x ∙ q .firsts
+      blank i (suc (suc (suc zero))) x g = laws.getD-at-equal (st′ .nodes) i (u * 4 + 3) x ∙ (q .spare ∙ rules .spare)
       blank i (suc (suc (suc (suc k)))) x g = absurd (omega arith)
 
   next : suc u ≡ u + 1
@@ -75,7 +75,7 @@ module _ {h : Used} {st : Store} {index : List ℕ} (l : Lent h st index) (u : �
   indexed : MoreIndex (room (st .nodes)) u b index′ index
   indexed = record {
     broad = sym (simp length-set refl);
-    front = last-one (bucketAt st) b (suc u) _ _ (sound .indexed .heads b small) (last-new (sym bucket));
+    front = last-in-unique (bucketAt st) b (suc u) _ _ (sound .indexed .heads b small) (last-new (sym bucket));
     next = sym (getD-set-other one (room (st .nodes) + u) b 0 0 (λ x. omega arith) ∙ getD-set-same index b _ 0 (omega (arith, within)));
     no-next = getD-set-same one (room (st .nodes) + u) 0 0 (simp length-set within);
     other = λ i x y. sym (getD-set-other one (room (st .nodes) + u) i 0 0 y ∙ getD-set-other index b i _ 0 x);
@@ -86,7 +86,7 @@ module _ {h : Used} {st : Store} {index : List ℕ} (l : Lent h st index) (u : �
 
   pub popped : TakenBack u h st (record { nodes = u; edges = e }) st′ index′
   popped = record {
-    lent = record { allowed = allowed-same (l .allowed) (q .long) (p .wide) (p .deep) (simp length-set refl); sound = shrunk sound first more; edges = sym (start-shrunk sound first more) };
+    lent = record { allowed = allowed-same (l .allowed) (q .long) (p .wide) (p .deep) (simp length-set refl); sound = sound-shrunk sound first more; edges = sym (start-shrunk sound first more) };
     used-is = refl;
     stays = record {
       long = sym (q .long);

@@ -72,24 +72,24 @@ module _ {u e : ℕ} {st : Store} {index : List ℕ} {st′ : Store} {index′ :
       (last-agrees (λ k h. bucket-same k (omega arith)) (subst (λ (c : ℕ). LastIn (bucketAt st′) c n (getD index′ (room (st .nodes) + n) 0)) (sym (bucket-same n l)) (next-last n (omega arith))))
 
   no-word : (i : ℕ) → u * 4 ≤ i → getD (st .nodes) i 0 ≡ 0
-  no-word i h = ⊎-elim (λ l. more .words .no-word i h l) (λ g. sym (more .words .word i (inr g)) ∙ t .records .no-node i (omega arith)) (laws.split i (u * 4 + 4))
+  no-word i h = ⊎-elim (λ l. more .words .no-word i h l) (λ g. sym (more .words .word i (inr g)) ∙ t .records .no-node i (omega arith)) (laws.lt-or-le i (u * 4 + 4))
 
   no-child : (i : ℕ) → e ≤ i → kidAt (st .children) i ≡ 0
-  no-child i h = ⊎-elim (λ l. more .words .no-child i h l) (λ g. sym (more .words .child i (inr g)) ∙ t .records .no-child i (omega (arith, start-last))) (laws.split i (e + countAt (st′ .nodes) u))
+  no-child i h = ⊎-elim (λ l. more .words .no-child i h l) (λ g. sym (more .words .child i (inr g)) ∙ t .records .no-child i (omega (arith, start-last))) (laws.lt-or-le i (e + countAt (st′ .nodes) u))
 
   no-cut : (i : ℕ) → e ≤ i → cutAt (st .cuts) i ≡ pos 0
-  no-cut i h = ⊎-elim (λ l. more .words .no-cut i h l) (λ g. sym (more .words .cut i (inr g)) ∙ t .records .no-cut i (omega (arith, start-last))) (laws.split i (e + countAt (st′ .nodes) u))
+  no-cut i h = ⊎-elim (λ l. more .words .no-cut i h l) (λ g. sym (more .words .cut i (inr g)) ∙ t .records .no-cut i (omega (arith, start-last))) (laws.lt-or-le i (e + countAt (st′ .nodes) u))
 
   no-next : (i : ℕ) → room (st .nodes) + u ≤ i → getD index i 0 ≡ 0
   no-next i h = go (ℕ-discrete i (room (st .nodes) + u))
     where
       go : Dec (i ≡ room (st .nodes) + u) → getD index i 0 ≡ 0
-      go (yes q) = laws.at index i (room (st .nodes) + u) q ∙ more .indexed .no-next
+      go (yes q) = laws.getD-at-equal index i (room (st .nodes) + u) q ∙ more .indexed .no-next
       go (no q) = word-other i (λ x. omega (arith, b-lt)) q ∙ t .indexed .no-next i (omega (arith, room-same))
 
   -- a sound table shrinks by its last record
-  pub shrunk : SoundLent st index u
-  shrunk = record {
+  pub sound-shrunk : SoundLent st index u
+  sound-shrunk = record {
     records = record {
       fits = omega (arith, room-same, t .records .fits);
       rules = λ n l. frames.rules-agree agree old ends n l (sym (more .words .wide));

@@ -7,7 +7,7 @@ use native.Mathlib.Decide.{ℕ-discrete}
 use lib.ListN.{length, set, length-set}
 use lib.Seq.{getD-set-same, getD-set-other}
 use Rattle.diagram.specs.Room.{mostEdges}
-use Rattle.table.proofs.Laws.{split}
+use Rattle.table.proofs.Laws.{lt-or-le}
 use Rattle.merging.proofs.Gluing.{Slot, next, again, Keeps, Put}
 use Rattle.making.specs.declared.edges.Edge.{Edge}
 use Rattle.making.specs.declared.edges.Edges as built
@@ -39,26 +39,26 @@ SlotFor n f d s = (0 < n → f ≡ d → s ≡ n - 1) × ((0 < n → f ≡ d →
 
 -- it is the next one at most
 pub slot-most : {n f d s : ℕ} → SlotFor n f d s → s ≤ n
-slot-most {n} {f} {d} {s} sf = go (ℕ-discrete f d) (split 0 n)
+slot-most {n} {f} {d} {s} sf = go (ℕ-discrete f d) (lt-or-le 0 n)
   where
     go : Dec (f ≡ d) → (0 < n) ⊎ (n ≤ 0) → s ≤ n
     go (yes e) (inl g) = omega (arith, sf .0 g e)
     go (yes e) (inr g) = omega (arith, sf .1 (λ p. absurd (omega arith)))
     go (no e) g = omega (arith, sf .1 (λ p q. e q))
 
--- n edges are in use, and the last of them leads to f
-module _ (out : built.Edges) (size : length (out .list) ≡ mostEdges) (n f d s : ℕ) (own : 0 < n → f ≡ childIn out (n - 1)) (sf : SlotFor n f d s) where
-  slot-is : Slot (childIn out) n d s
-  slot-is = go (ℕ-discrete f d) (split 0 n)
-    where
-      go : Dec (f ≡ d) → (0 < n) ⊎ (n ≤ 0) → Slot (childIn out) n d s
-      go (yes e) (inl g) = subst (Slot (childIn out) n d) (sym (sf .0 g e)) (again g (sym (own g) ∙ e))
-      go (yes e) (inr g) = subst (Slot (childIn out) n d) (sym (sf .1 (λ p. absurd (omega arith)))) (next (λ p. absurd (omega arith)))
-      go (no e) g = subst (Slot (childIn out) n d) (sym (sf .1 (λ p q. e q))) (next (λ p q. e (own p ∙ q)))
+-- n edges are in use, and the last of them leads to f: the slot of an edge to d
+pub slot-for-is : (c : ℕ → ℕ) (n f d s : ℕ) → (0 < n → f ≡ c (n - 1)) → SlotFor n f d s → Slot c n d s
+slot-for-is c n f d s own sf = go (ℕ-discrete f d) (lt-or-le 0 n)
+  where
+    go : Dec (f ≡ d) → (0 < n) ⊎ (n ≤ 0) → Slot c n d s
+    go (yes e) (inl g) = subst (Slot c n d) (sym (sf .0 g e)) (again g (sym (own g) ∙ e))
+    go (yes e) (inr g) = subst (Slot c n d) (sym (sf .1 (λ p. absurd (omega arith)))) (next (λ p. absurd (omega arith)))
+    go (no e) g = subst (Slot c n d) (sym (sf .1 (λ p q. e q))) (next (λ p q. e (own p ∙ q)))
 
+module _ (out : built.Edges) (size : length (out .list) ≡ mostEdges) (n f d s : ℕ) (own : 0 < n → f ≡ childIn out (n - 1)) (sf : SlotFor n f d s) where
   -- an edge to the child d in that slot
-  pub put : (e : Edge) → e .child .0 ≡ d → s < mostEdges → Put (childIn out) (cutIn out) (childIn (stored out s e)) (cutIn (stored out s e)) n s d
-  put e q l = record { slot = slot-is; keeps = stored-keeps out s e size; child = stored-child out s e size l ∙ q }
+  pub stored-is-put : (e : Edge) → e .child .0 ≡ d → s < mostEdges → Put (childIn out) (cutIn out) (childIn (stored out s e)) (cutIn (stored out s e)) n s d
+  stored-is-put e q l = record { slot = slot-for-is (childIn out) n f d s own sf; keeps = stored-keeps out s e size; child = stored-child out s e size l ∙ q }
 
   -- a slot that is none of those in use is the next one, and the last edge leads elsewhere
   pub slot-new : n ≤ s → (s ≡ n) × (0 < n → childIn out (n - 1) ≡ d → ⊥)

@@ -21,11 +21,11 @@ use Rattle.table.specs.Layout.{varAt, spareAt, kidAt, cutAt, start, cutPosition
 use Rattle.table.specs.Lent.{Stands, KidsStand, Blank, Rules}
 use Rattle.table.specs.Checking.{below, Climbs}
 use Rattle.table.specs.Held.{held}
-use Rattle.table.proofs.CutPositions.{cut-position-place, to-document}
+use Rattle.table.proofs.CutPositions.{cut-position-place, cuts-from-climbs}
 use Rattle.table.proofs.Scan.{table-length}
-use Rattle.table.proofs.Bridge.{table-at}
+use Rattle.table.proofs.Bridge.{at-held}
 use Rattle.table.proofs.Laws as laws
-use Rattle.table.proofs.Laws.{kids-at, rising-at, blank-at}
+use Rattle.table.proofs.Laws.{kids-stand-at-equal, climbs-at-equal, blank-at-equal}
 use Rattle.making.specs.declared.edges.Edges as built
 use Rattle.making.specs.Building.{Building, childIn, cutIn, keyIn, piecesOf, zeroCut}
 use Rattle.making.specs.Storing.{storedCut, EdgesPut, RecordPut}
@@ -55,7 +55,7 @@ bool-none v j count k h = rw (le-ltb v firstBoolean h)
 module _ (v : ℕ) (es : built.Edges) (red : Reduced 0 (topOf v) (piecesOf es)) where
   pub cut-position-put : (j : ℕ) → j < es .len → cutPosition (storedCut v j (es .len) (cutIn es j)) ≡ keyIn v es j
   unfolding keyIn
-  cut-position-put j l = ⊎-elim (λ h. cut-position-stored v j (es .len) (cutIn es j) (cut-most v es red j h)) (λ h. ap cutPosition (last-cut v j (es .len) (cutIn es j) h) ∙ sym (none (isRange v) h)) (laws.split (j + 1) (es .len))
+  cut-position-put j l = ⊎-elim (λ h. cut-position-stored v j (es .len) (cutIn es j) (cut-most v es red j h)) (λ h. ap cutPosition (last-cut v j (es .len) (cutIn es j) h) ∙ sym (none (isRange v) h)) (laws.lt-or-le (j + 1) (es .len))
     where
       none : (b : Bool) → es .len ≤ j + 1 → cond (b && ltb (j + 1) (es .len)) (cutIn es j) zeroCut ≡ zeroCut
       none true h = rw (le-ltb (j + 1) (es .len) h)
@@ -72,7 +72,7 @@ module _ {st : Store} {u e v s : ℕ} {es : built.Edges} {st′ : Store} (known 
       go (suc m) z =
           let h : m < u = omega (arith, k .0, table-length st u) in
           let w : ref c - 1 ≡ m = omega arith in
-          let x = ap (λ (nd : Node). nd .var) (ap (at (held st u)) z ∙ table-at st u m h) in
+          let x = ap (λ (nd : Node). nd .var) (ap (at (held st u)) z ∙ at-held st u m h) in
           let y = q .other (m * 4) (inl (omega arith)) in
           inr (omega (arith, k .0, table-length st u), subst (λ (i : ℕ). v < varAt (st′ .nodes) i) (sym w) (omega (arith, k .1, x, y)))
 
@@ -113,9 +113,9 @@ module _ {st : Store} {u e v s : ℕ} {es : built.Edges} {st′ : Store} (known 
         packed = ff ∙ sym from;
         inside = omega (arith, ff, cc, p .wide);
         plain = ap (λ (i : ℕ). sign (kidAt (st′ .children) i)) (ff ∙ zeroth) ∙ (ap sign (p .child-is 0 (omega arith)) ∙ sign-under (childIn es 0) s sgn);
-        edges = kids-at (sym vv) (sym ff) (sym cc) stand;
-        ranges = λ h. to-document (st′ .cuts) _ _ (rising-at (sym ff) (sym cc) (climbing (omega (arith, vv))));
-        booleans = λ h. blank-at (sym ff) (blank (omega (arith, vv)));
+        edges = kids-stand-at-equal (sym vv) (sym ff) (sym cc) stand;
+        ranges = λ h. cuts-from-climbs (st′ .cuts) _ _ (climbs-at-equal (sym ff) (sym cc) (climbing (omega (arith, vv))));
+        booleans = λ h. blank-at-equal (sym ff) (blank (omega (arith, vv)));
       }
     where
       zeroth : e ≡ e + 0

@@ -14,7 +14,7 @@ use Rattle.diagram.specs.Room.{Fits}
 use Rattle.table.specs.Layout.{kidAt, cutAt, room, start, Lengths, Store}
 use Rattle.table.specs.Lent.{SoundLent}
 use Rattle.table.specs.Told.{Allowed}
-use Rattle.table.proofs.Laws.{split, clash}
+use Rattle.table.proofs.Laws.{lt-or-le, not-false-and-true}
 use Rattle.table.proofs.Determined.{same-store, same-index}
 use Rattle.making.specs.declared.nodes.Used.{Used}
 use Rattle.making.specs.Outcome.{Lent, Stays, Outcome, Untouched, TakenBack}
@@ -40,7 +40,7 @@ module _ {h h′ h″ : Used} {st : Store} {index : List ℕ} {st′ st″ : Sto
   nodes-back : st″ .nodes ≡ st .nodes
   nodes-back = ext-getD 0 (st″ .nodes) (st .nodes) long (λ i _. ⊎-elim
       (λ g. sym (b .stays .word i (omega (arith, b .used-is))) ∙ s .word i g)
-      (λ g. back .records .no-node i g ∙ sym (l .sound .records .no-node i g)) (split i (h .nodes * 4)))
+      (λ g. back .records .no-node i g ∙ sym (l .sound .records .no-node i g)) (lt-or-le i (h .nodes * 4)))
 
   -- so its edges end where they did
   ends : start (st″ .nodes) (h .nodes) ≡ h .edges
@@ -52,22 +52,22 @@ module _ {h h′ h″ : Used} {st : Store} {index : List ℕ} {st′ st″ : Sto
   children-back : st″ .children ≡ st .children
   children-back = ext-getD 0 (st″ .children) (st .children) wide (λ i _. ⊎-elim
       (λ g. sym (b .stays .child i (omega (arith, edges-back))) ∙ s .child i g)
-      (λ g. back .records .no-child i (omega (arith, ends)) ∙ sym (l .sound .records .no-child i (omega (arith, l .edges)))) (split i (h .edges)))
+      (λ g. back .records .no-child i (omega (arith, ends)) ∙ sym (l .sound .records .no-child i (omega (arith, l .edges)))) (lt-or-le i (h .edges)))
 
   cuts-back : st″ .cuts ≡ st .cuts
   cuts-back = ext-getD (pos 0) (st″ .cuts) (st .cuts) (cuts-as-long (l .allowed) (b .lent .allowed) wide) (λ i _. ⊎-elim
       (λ g. sym (b .stays .cut i (omega (arith, edges-back))) ∙ s .cut i g)
-      (λ g. back .records .no-cut i (omega (arith, ends)) ∙ sym (l .sound .records .no-cut i (omega (arith, l .edges)))) (split i (h .edges)))
+      (λ g. back .records .no-cut i (omega (arith, ends)) ∙ sym (l .sound .records .no-cut i (omega (arith, l .edges)))) (lt-or-le i (h .edges)))
 
-  pub untouched : Untouched st index st″ index″
-  untouched =
+  pub taken-back-untouched : Untouched st index st″ index″
+  taken-back-untouched =
       let e : st″ ≡ st = same-store nodes-back children-back cuts-back in
       record { same = e; index-same = same-index st index″ index (h .nodes) (subst (λ (x : Store). SoundLent x index″ (h .nodes)) e back) (l .sound) (index-as-long (l .allowed) (b .lent .allowed) long) }
 
   -- So it is the outcome of an operation that found no room.
-  pub taken-outcome : {want : Table × ℕ} (id : NodeId) → (Fits (room (st .nodes)) (length (st .children)) (want .0) → ⊥) → Outcome h want (record { ok = false; id = id; used = h″ }) st st″ index″
-  taken-outcome id f =
-      let u = untouched in
+  pub outcome-when-taken-back : {want : Table × ℕ} (id : NodeId) → (Fits (room (st .nodes)) (length (st .children)) (want .0) → ⊥) → Outcome h want (record { ok = false; id = id; used = h″ }) st st″ index″
+  outcome-when-taken-back id f =
+      let u = taken-back-untouched in
       record {
         lent = b .lent;
         stays = record {
@@ -79,7 +79,7 @@ module _ {h h′ h″ : Used} {st : Store} {index : List ℕ} {st′ st″ : Sto
           child = λ i g. ap (λ (x : Store). kidAt (x .children) i) (u .same);
           cut = λ i g. ap (λ (x : Store). cutAt (x .cuts) i) (u .same);
         };
-        table = λ q. absurd (clash refl q);
-        id = λ q. absurd (clash refl q);
+        table = λ q. absurd (not-false-and-true refl q);
+        id = λ q. absurd (not-false-and-true refl q);
         full = λ q. f;
       }

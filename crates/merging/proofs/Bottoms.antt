@@ -56,8 +56,8 @@ reduced-cutAbove b t hi (cut c k e) r = go (leb k hi) (reduced-cutAbove k t hi e
 pub narrowed-reduced : (lo hi top : ℕ) (e : Pieces ℕ) → Reduced 0 top e → Reduced 0 top (narrowed lo hi e)
 narrowed-reduced lo hi top e r = reduced-cutAbove 0 top hi (above lo e) (reduced-above 0 top lo e r)
 
-pub narrowed-create : (t : Table) (v lo hi : ℕ) (e : Pieces ℕ) → Reduced 0 (topOf v) e → create-node t v (narrowed lo hi e) ≡ settle t v (narrowed lo hi e)
-narrowed-create t v lo hi e r = ap (settle t v) (merge-reduced 0 (topOf v) (narrowed lo hi e) (narrowed-reduced lo hi (topOf v) e r))
+pub create-narrowed-settles : (t : Table) (v lo hi : ℕ) (e : Pieces ℕ) → Reduced 0 (topOf v) e → create-node t v (narrowed lo hi e) ≡ settle t v (narrowed lo hi e)
+create-narrowed-settles t v lo hi e r = ap (settle t v) (merge-reduced 0 (topOf v) (narrowed lo hi e) (narrowed-reduced lo hi (topOf v) e r))
 
 -- narrowing is a change, with empty bounds or others
 pub narrowing-changes : (v lo hi : ℕ) (b : Bool) → v < variables → (b ≡ false → lo ≤ hi) → hi ≤ topOf v → Changes v (λ e. cond b (emptied e) (narrowed lo hi e))
@@ -66,24 +66,24 @@ narrowing-changes v lo hi false hv l m = narrowed-changes v lo hi (l refl) m
 
 -- the operations as changes
 module _ (t : Table) (v : ℕ) (lower upper : Bound) (id : ℕ) where
-  pub narrow-is : narrow t v lower upper id ≡ change variables (λ e. cond (empty lower upper) (emptied e) (narrowed (position (firstPlace lower)) (position (lastPlace upper)) e)) t v id
+  pub narrow-is-change : narrow t v lower upper id ≡ change variables (λ e. cond (empty lower upper) (emptied e) (narrowed (position (firstPlace lower)) (position (lastPlace upper)) e)) t v id
   unfolding narrow
-  narrow-is = go (empty lower upper)
+  narrow-is-change = go (empty lower upper)
     where
       go : (b : Bool) → cond b (change variables emptied t v id) (change variables (narrowed (position (firstPlace lower)) (position (lastPlace upper))) t v id)
           ≡ change variables (λ e. cond b (emptied e) (narrowed (position (firstPlace lower)) (position (lastPlace upper)) e)) t v id
       go true = refl
       go false = refl
 
-  pub widen-is : empty lower upper ≡ false → widen t v lower upper id ≡ change variables (widened (position (firstPlace lower)) (position (lastPlace upper)) (topOf v)) t v id
+  pub widen-is-change : empty lower upper ≡ false → widen t v lower upper id ≡ change variables (widened (position (firstPlace lower)) (position (lastPlace upper)) (topOf v)) t v id
   unfolding widen
-  widen-is e = rw e
+  widen-is-change e = rw e
 
 module _ (t : Table) (v : ℕ) (b : Bool) (id : ℕ) where
-  pub restrict-range : isRange v ≡ true → restrict t v b id ≡ (t, id)
+  pub restrict-range-unchanged : isRange v ≡ true → restrict t v b id ≡ (t, id)
   unfolding restrict
-  restrict-range e = rw e
+  restrict-range-unchanged e = rw e
 
-  pub restrict-is : isRange v ≡ false → restrict t v b id ≡ change variables (fixed (cond b 0 1)) t v id
+  pub restrict-is-change : isRange v ≡ false → restrict t v b id ≡ change variables (fixed (cond b 0 1)) t v id
   unfolding restrict
-  restrict-is e = rw e
+  restrict-is-change e = rw e

@@ -15,10 +15,10 @@ use Rattle.algebra.specs.Overlay.{overlay}
 use Rattle.algebra.specs.Making.{create-node}
 use Rattle.algebra.specs.Conjunction.{walk, walkBack, walkIn, create-over, opening, conj-node, conj-step, conj}
 use Rattle.algebra.proofs.Commuting.{overlay-both}
-use Rattle.algebra.proofs.Made.{Made, remean, answers}
-use Rattle.algebra.proofs.Conjoining.{conjoined}
+use Rattle.algebra.proofs.Made.{Made, made-same-meaning, made-answers}
+use Rattle.algebra.proofs.Conjoining.{conj-says-both}
 use Rattle.algebra.proofs.Exact.{answer-held}
-use Rattle.merging.proofs.Stepping.{over-last-last, over-last-cut, over-cut-last}
+use Rattle.merging.proofs.Stepping.{overlay-last-last, overlay-last-cut, overlay-cut-last}
 
 -- by its opening tests
 pub conj-opened : (n : ℕ) (t : Table) (x y z : ℕ) → opening x y ≡ some z → conj (suc n) t x y ≡ (t, z)
@@ -34,21 +34,21 @@ conj-walked n t x y h = rw h
 pub conj-made : (n : ℕ) (t : Table) (u : ℕ) → variables < u + n → (s : Table) → Sound s → Continues t s → (p : ℕ × ℕ) → Child t u (p .0) × Child t u (p .1)
     → Made s u (λ α. value t α (p .0) && value t α (p .1)) (conj n s (p .0) (p .1))
 conj-made n t u h s z g p k =
-    remean (conjoined n s z u (p .0) (p .1) (continues-child g u (p .0) (k .0)) (continues-child g u (p .1) (k .1)) h)
+    made-same-meaning (conj-says-both n s z u (p .0) (p .1) (continues-child g u (p .0) (k .0)) (continues-child g u (p .1) (k .1)) h)
     (λ α. ap₂ _&&_ (continues-value g α (p .0) (k .0 .0)) (continues-value g α (p .1) (k .1 .0)))
 
 -- from a sound table and ids that test variables from u on
 module _ (n : ℕ) (t : Table) (z : Sound t) (u x y : ℕ) (kx : Child t u x) (ky : Child t u y) (ahead : variables < u + n) where
   -- an id of the table that says both is the answer
-  pub recalled : (c : ℕ) → Known t c → ((α : Assignment) → value t α c ≡ (value t α x && value t α y)) → conj n t x y ≡ (t, c)
-  recalled c k h =
-      answer-held t z (λ ρ. value t (positions ρ) x && value t (positions ρ) y) (conj n t x y) (answers (conjoined n t z u x y kx ky ahead) _ (λ ρ. refl)) c k (λ ρ. h (positions ρ))
+  pub conj-adds-nothing : (c : ℕ) → Known t c → ((α : Assignment) → value t α c ≡ (value t α x && value t α y)) → conj n t x y ≡ (t, c)
+  conj-adds-nothing c k h =
+      answer-held t z (λ ρ. value t (positions ρ) x && value t (positions ρ) y) (conj n t x y) (made-answers (conj-says-both n t z u x y kx ky ahead) _ (λ ρ. refl)) c k (λ ρ. h (positions ρ))
 
   -- what the answer says is said of the table that holds it
-  pub remembered : let out = conj n t x y in
+  pub conj-known-says-both : let out = conj n t x y in
       Known (out .0) x × Known (out .0) y × Known (out .0) (out .1) × ((α : Assignment) → value (out .0) α (out .1) ≡ (value (out .0) α x && value (out .0) α y))
-  remembered =
-      let m = conjoined n t z u x y kx ky ahead in
+  conj-known-says-both =
+      let m = conj-says-both n t z u x y kx ky ahead in
       let l = continues-length (m .continues) in
       (omega (arith, l, kx .0), omega (arith, l, ky .0), m .child .0, λ α. m .means α ∙ sym (ap₂ _&&_ (continues-value (m .continues) α x (kx .0)) (continues-value (m .continues) α y (ky .0))))
 
@@ -73,11 +73,11 @@ sides v h (cut a k (cut b l e)) r =
     absurd (omega (arith, r .0, r .2 .0))
 
 -- two such sides, one over the other, where either has two
-pub sides-overlay : {e g : Pieces ℕ} {h l i j : ℕ} → Sides e h l → Sides g i j → 2 < count e + count g → overlay e g ≡ cut (h, i) 1 (last (l, j))
-sides-overlay one one n = absurd (omega arith)
-sides-overlay (one {a = a}) (two {h = i} {l = j}) n = over-last-cut a i 1 (last j) ∙ ap (cut (a, i) 1) (over-last-last a j)
-sides-overlay (two {h = h} {l = l}) (one {a = a}) n = over-cut-last h a 1 (last l) ∙ ap (cut (h, a) 1) (over-last-last l a)
-sides-overlay (two {h = h} {l = l}) (two {h = i} {l = j}) n = overlay-both h 1 (last l) i 1 (last j) 1 refl (omega arith) ∙ ap (cut (h, i) 1) (over-last-last l j)
+pub overlay-sides : {e g : Pieces ℕ} {h l i j : ℕ} → Sides e h l → Sides g i j → 2 < count e + count g → overlay e g ≡ cut (h, i) 1 (last (l, j))
+overlay-sides one one n = absurd (omega arith)
+overlay-sides (one {a = a}) (two {h = i} {l = j}) n = overlay-last-cut a i 1 (last j) ∙ ap (cut (a, i) 1) (overlay-last-last a j)
+overlay-sides (two {h = h} {l = l}) (one {a = a}) n = overlay-cut-last h a 1 (last l) ∙ ap (cut (h, a) 1) (overlay-last-last l a)
+overlay-sides (two {h = h} {l = l}) (two {h = i} {l = j}) n = overlay-both h 1 (last l) i 1 (last j) 1 refl (omega arith) ∙ ap (cut (h, i) 1) (overlay-last-last l j)
 
 -- a node over two values, the high one first or the low one first
 module _ {A : Type 0} (f : Table → A → Table × ℕ) (v : ℕ) (t : Table) (p q : A) where

@@ -12,13 +12,13 @@ use Rattle.diagram.specs.Cofactor.{edgesOf}
 use Rattle.diagram.specs.Sound.{Known, Child, Sound, Continues, same}
 use Rattle.diagram.specs.Reading.{positions}
 use Rattle.diagram.proofs.Continuing.{continues-length, continues-value, continues-child}
-use Rattle.diagram.proofs.Cofactors.{edges-of}
+use Rattle.diagram.proofs.Cofactors.{edges-are-kids}
 use Rattle.algebra.specs.Making.{create-node}
 use Rattle.algebra.specs.Conjunction.{walkIn, create-over}
 use Rattle.algebra.specs.Changing.{isBefore, change-step, change}
-use Rattle.algebra.proofs.Made.{Made, remean, answers}
+use Rattle.algebra.proofs.Made.{Made, made-same-meaning, made-answers}
 use Rattle.algebra.proofs.Commuting.{walkIn-agree}
-use Rattle.algebra.proofs.Descending.{before-yes, Changes, means, means-continues, changed}
+use Rattle.algebra.proofs.Descending.{before-yes, Changes, means, means-continues, change-makes-meaning}
 use Rattle.algebra.proofs.Exact.{answer-held}
 
 -- whether an id's node tests an earlier variable, from the two numbers
@@ -66,14 +66,14 @@ module _ (v : ℕ) (hv : v < variables) (g : Pieces ℕ → Pieces ℕ) (ch : Ch
           let b : v ≤ suc u + m = omega (arith, k .1) in
           step-before n g s v id e
           ∙ ap (create-over u) (walkIn-agree (λ r c. change m g r v c) (λ r c. change n g r v c) s (Child s (suc u))
-          (λ r y q c kc. let x = changed v hv g ch m r y (suc u) c lt (continues-child q (suc u) c kc) b in (x .sound, x .continues))
+          (λ r y q c kc. let x = change-makes-meaning v hv g ch m r y (suc u) c lt (continues-child q (suc u) c kc) b in (x .sound, x .continues))
           (λ r y q c kc. rec r y c lt (continues-child q (suc u) c kc) a b)
-          (not (isRange u)) s z same (edgesOf s u id) (edges-of s z u id (omega arith) (k .0, omega arith) .kids))
+          (not (isRange u)) s z same (edgesOf s u id) (edges-are-kids s z u id (omega arith) (k .0, omega arith) .kids))
           ∙ sym (step-before m g s v id e)
 
   -- the children's changes, as Walking and Fitting ask for them
   pub change-made : (t : Table) → Sound t → (u : ℕ) → u < v → (s : Table) → Sound s → Continues t s → (c : ℕ) → Child t (suc u) c → Made s (suc u) (means v hv g ch variables t c) (change variables g s v c)
-  change-made t z u l s y q c k = remean (changed v hv g ch variables s y (suc u) c l (continues-child q (suc u) c k) (omega arith)) (means-continues v hv g ch variables z q (suc u) c k (omega arith))
+  change-made t z u l s y q c k = made-same-meaning (change-makes-meaning v hv g ch variables s y (suc u) c l (continues-child q (suc u) c k) (omega arith)) (means-continues v hv g ch variables z q (suc u) c k (omega arith))
 
   -- at a node of an earlier variable it goes to each child; 63 is what the first step leaves of `variables`
   pub change-before : (t : Table) → Sound t → (id : ℕ) → Known t id → isBefore t v id ≡ true
@@ -85,7 +85,7 @@ module _ (v : ℕ) (hv : v < variables) (g : Pieces ℕ → Pieces ℕ) (ch : Ch
       ∙ ap (create-over u) (walkIn-agree (λ s c. change variables g s v c) (λ s c. change 63 g s v c) t (Child t (suc u))
       (λ s y q c kc. let x = change-made t z u lt s y q c kc in (x .sound, x .continues))
       (λ s y q c kc. change-enough 63 variables s y (suc u) c lt (continues-child q (suc u) c kc) (omega arith) (omega arith))
-      (not (isRange u)) t z same (edgesOf t u id) (edges-of t z u id (omega arith) (k, omega arith) .kids))
+      (not (isRange u)) t z same (edgesOf t u id) (edges-are-kids t z u id (omega arith) (k, omega arith) .kids))
 
   -- and at any other id the edges are changed
   pub change-here : (t : Table) (id : ℕ) → isBefore t v id ≡ false → change variables g t v id ≡ create-node t v (g (edgesOf t v id))
@@ -94,7 +94,7 @@ module _ (v : ℕ) (hv : v < variables) (g : Pieces ℕ → Pieces ℕ) (ch : Ch
   module _ (t : Table) (z : Sound t) (id : ℕ) (k : Known t id) where
     -- the change as a whole
     whole : Made t 0 (means v hv g ch variables t id) (change variables g t v id)
-    whole = changed v hv g ch variables t z 0 id (omega arith) (k, omega arith) (omega arith)
+    whole = change-makes-meaning v hv g ch variables t z 0 id (omega arith) (k, omega arith) (omega arith)
 
     -- it leaves a sound table that continues this one, and the answer is an id of it
     pub change-sound : Sound ((change variables g t v id) .0)
@@ -111,15 +111,15 @@ module _ (v : ℕ) (hv : v < variables) (g : Pieces ℕ → Pieces ℕ) (ch : Ch
     change-held s y q c kc h =
         let ks : Known s id = omega (arith, continues-length q) in
         answer-held s y (λ ρ. means v hv g ch variables t id (positions ρ)) (change variables g s v id)
-        (answers (changed v hv g ch variables s y 0 id (omega arith) (ks, omega arith) (omega arith)) _ (λ ρ. means-continues v hv g ch variables z q 0 id (k, omega arith) (omega arith) (positions ρ)))
+        (made-answers (change-makes-meaning v hv g ch variables s y 0 id (omega arith) (ks, omega arith) (omega arith)) _ (λ ρ. means-continues v hv g ch variables z q 0 id (k, omega arith) (omega arith) (positions ρ)))
         c kc (λ ρ. h (positions ρ))
 
     -- on the table that it left, the change makes nothing new and gives the same id
-    pub change-kept : change variables g ((change variables g t v id) .0) v id ≡ change variables g t v id
-    change-kept = change-held ((change variables g t v id) .0) change-sound change-continues ((change variables g t v id) .1) change-known (whole .means)
+    pub change-again-same : change variables g ((change variables g t v id) .0) v id ≡ change variables g t v id
+    change-again-same = change-held ((change variables g t v id) .0) change-sound change-continues ((change variables g t v id) .1) change-known (whole .means)
 
   -- what was noted of a table stays true of one that continues it
-  pub change-grown : {t t′ : Table} → Sound t → Sound t′ → Continues t t′ → (x z : ℕ) → Known t x → change variables g t v x ≡ (t, z) → change variables g t′ v x ≡ (t′, z)
-  change-grown {t} {t′} y y′ q x z k e =
+  pub change-stays-settled : {t t′ : Table} → Sound t → Sound t′ → Continues t t′ → (x z : ℕ) → Known t x → change variables g t v x ≡ (t, z) → change variables g t′ v x ≡ (t′, z)
+  change-stays-settled {t} {t′} y y′ q x z k e =
       let m = subst (Made t 0 (means v hv g ch variables t x)) e (whole t y x k) in
       change-held t y x k t′ y′ q z (omega (arith, continues-length q, m .child .0)) (λ α. continues-value q α z (m .child .0) ∙ m .means α)

@@ -18,8 +18,8 @@ use Rattle.algebra.specs.Overlay.{overlay, merge}
 use Rattle.algebra.specs.Making.{find, intern, firstSign, settle, create-node}
 use Rattle.algebra.specs.Conjunction.{walk, create-over}
 use Rattle.algebra.proofs.Made.{Made}
-use Rattle.algebra.proofs.Making.{found}
-use Rattle.algebra.proofs.Walking.{walked}
+use Rattle.algebra.proofs.Making.{find-found}
+use Rattle.algebra.proofs.Walking.{walk-makes-each}
 use Rattle.merging.proofs.Stepping.{first-overlay, Going}
 
 -- an older table fits where a newer one does
@@ -59,7 +59,7 @@ intern-width t nd s nodes edges f = go (find t nd) refl
         rw (at-new nd t) at (g .widthsFit (suc (length t)) (omega arith) (omega arith))
     go (suc r) q =
         let g : Fits nodes edges t = rw (intern-found t nd s r q) at f in
-        let x = found t nd in
+        let x = find-found t nd in
         let a : at t (suc r) ≡ nd = rw q at (x .there (omega arith)) in
         rw a at (g .widthsFit (suc r) (omega arith) (rw q at (x .inside)))
 
@@ -79,8 +79,8 @@ settle-width t v (cut c k e) nodes edges f =
     let s = firstSign (cut c k e) in
     omega (arith, count-map (under s) (cut c k e), intern-width t (record { var = v; edges = map (under s) (cut c k e) }) s nodes edges f)
 
-pub full-wide : (t : Table) (v : ℕ) (e : Pieces ℕ) (nodes edges : ℕ) → mostEdges < count (merge e) → Fits nodes edges ((create-node t v e) .0) → ⊥
-full-wide t v e nodes edges h f = omega (arith, settle-width t v (merge e) nodes edges f)
+pub not-fits-too-wide : (t : Table) (v : ℕ) (e : Pieces ℕ) (nodes edges : ℕ) → mostEdges < count (merge e) → Fits nodes edges ((create-node t v e) .0) → ⊥
+not-fits-too-wide t v e nodes edges h f = omega (arith, settle-width t v (merge e) nodes edges f)
 
 -- with an operation f as Walking has it
 module _ (f : Table → ℕ × ℕ → Table × ℕ) (t₀ : Table) (u : ℕ) (P : ℕ × ℕ → Type 0) (m : ℕ × ℕ → Assignment → Bool)
@@ -90,11 +90,11 @@ module _ (f : Table → ℕ × ℕ → Table × ℕ) (t₀ : Table) (u : ℕ) (P
   first-continues t z g (last a) h = same
   first-continues t z g (cut a k e) h =
       let x = ok t z g a (h .0) in
-      walked f t₀ u P m ok ((f t a) .0) (x .sound) (continues-trans g (x .continues)) e (h .1) .continues
+      walk-makes-each f t₀ u P m ok ((f t a) .0) (x .sound) (continues-trans g (x .continues)) e (h .1) .continues
 
   -- a first answer that does not fit does not fit at the end
-  pub full-child : (whole : Table × Pieces ℕ) (t : Table) → Sound t → Continues t₀ t → (c k : ℕ → ℕ) (n : ℕ) (e g : Pieces ℕ) → Each P (overlay e g) → Going f whole t c k n e g
+  pub not-fits-child-full : (whole : Table × Pieces ℕ) (t : Table) → Sound t → Continues t₀ t → (c k : ℕ → ℕ) (n : ℕ) (e g : Pieces ℕ) → Each P (overlay e g) → Going f whole t c k n e g
       → (v nodes edges : ℕ) → (Fits nodes edges ((f t (first e, first g)) .0) → ⊥) → Fits nodes edges ((create-over v whole) .0) → ⊥
-  full-child whole t z s c k n e g h x v nodes edges no-room fit =
+  not-fits-child-full whole t z s c k n e g h x v nodes edges no-room fit =
       let i : Continues ((f t (first e, first g)) .0) (whole .0) = rw (first-overlay e g, x .table) at (first-continues t z s (overlay e g) h) in
       no-room (fits-before (continues-trans i (create-continues (whole .0) v (whole .1))) nodes edges fit)

@@ -111,9 +111,9 @@ glued-run c k (suc j) m a =
     ∙ glued-run c k j (suc m) (λ i h. a i (omega arith)) ∙ ap (run c k 0) z
 
 -- the last edge: what stands in the slots is the whole, merged
-pub glue-last : (c k c′ k′ : ℕ → ℕ) (n s d : ℕ) (whole : Pieces ℕ) → Glue c k n whole (last d) → Put c k c′ k′ n s d → run c′ k′ 0 s ≡ merge whole
+pub run-is-merge : (c k c′ k′ : ℕ → ℕ) (n s d : ℕ) (whole : Pieces ℕ) → Glue c k n whole (last d) → Put c k c′ k′ n s d → run c′ k′ 0 s ≡ merge whole
 unfolding glued merge run
-glue-last c k c′ k′ n s d whole g p =
+run-is-merge c k c′ k′ n s d whole g p =
     let z : s + 0 ≡ s = omega arith in
     sym (ap (run c′ k′ 0) z) ∙ sym (glued-run c′ k′ s 0 (put-apart c k c′ k′ n s d whole (last d) g p)) ∙ ap (λ (b : ℕ). glued c′ k′ s (last b)) (p .child)
     ∙ closing s (p .slot) (p .keeps) ∙ g .equal
@@ -136,6 +136,6 @@ glued-count c k (suc n) r a h =
     before : (n : ℕ) → ((i : ℕ) → i + 1 < suc n → c i ≡ c (i + 1) → ⊥) → 0 < n → c (n - 1) ≡ c n → ⊥
     before n a l q = let e : n - 1 + 1 ≡ n = omega arith in a (n - 1) (omega arith) (rw e q)
 
-pub glue-over : (c k : ℕ → ℕ) (n : ℕ) (whole rest : Pieces ℕ) → Glue c k n whole rest → (0 < n → c (n - 1) ≡ first rest → ⊥) → n < count (merge whole)
-glue-over c k n whole rest g h =
+pub glued-below-count : (c k : ℕ → ℕ) (n : ℕ) (whole rest : Pieces ℕ) → Glue c k n whole rest → (0 < n → c (n - 1) ≡ first rest → ⊥) → n < count (merge whole)
+glued-below-count c k n whole rest g h =
     omega (arith, ap count (g .equal), glued-count c k n (merge rest) (g .apart) (λ l q. h l (q ∙ first-merge rest)), count-pos (merge rest))

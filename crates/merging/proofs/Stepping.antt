@@ -8,21 +8,21 @@ use Rattle.diagram.specs.Table.{Table}
 use Rattle.algebra.specs.Overlay.{below, beside, above, overlay, merge}
 use Rattle.algebra.specs.Conjunction.{walk}
 use Rattle.algebra.proofs.Commuting.{overlay-right, overlay-left, overlay-both}
-use Rattle.merging.proofs.Gluing.{Glue, Put, glue-none, glue-step, glue-last, glue-over}
+use Rattle.merging.proofs.Gluing.{Glue, Put, glue-none, glue-step, run-is-merge, glued-below-count}
 
 -- the overlay by its first piece, where a side has no cut left
 module _ {A B : Type 0} (a : A) (b : B) where
-  pub over-last-last : overlay (last a) (last b) ≡ last (a, b)
+  pub overlay-last-last : overlay (last a) (last b) ≡ last (a, b)
   unfolding overlay beside
-  over-last-last = refl
+  overlay-last-last = refl
 
-  pub over-last-cut : (l : ℕ) (f : Pieces B) → overlay (last a) (cut b l f) ≡ cut (a, b) l (overlay (last a) f)
+  pub overlay-last-cut : (l : ℕ) (f : Pieces B) → overlay (last a) (cut b l f) ≡ cut (a, b) l (overlay (last a) f)
   unfolding overlay beside
-  over-last-cut l f = refl
+  overlay-last-cut l f = refl
 
-  pub over-cut-last : (k : ℕ) (e : Pieces A) → overlay (cut a k e) (last b) ≡ cut (a, b) k (overlay e (last b))
+  pub overlay-cut-last : (k : ℕ) (e : Pieces A) → overlay (cut a k e) (last b) ≡ cut (a, b) k (overlay e (last b))
   unfolding overlay below above
-  over-cut-last k e = refl
+  overlay-cut-last k e = refl
 
 -- and its first piece is that of the first pieces
 pub first-overlay : {A B : Type 0} (e : Pieces A) (f : Pieces B) → first (overlay e f) ≡ (first e, first f)
@@ -77,10 +77,10 @@ module _ (f : Table → ℕ × ℕ → Table × ℕ) where
 
     module _ (a b : ℕ) where
       pub going-last-cut : (l : ℕ) (g : Pieces ℕ) → Going f whole t c k n (last a) (cut b l g) → Answered a b → k′ s ≡ l → Going f whole ((f t (a, b)) .0) c′ k′ (s + 1) (last a) g
-      going-last-cut l g = going-step a b l (last a) (cut b l g) (last a) g (over-last-cut a b l g)
+      going-last-cut l g = going-step a b l (last a) (cut b l g) (last a) g (overlay-last-cut a b l g)
 
       pub going-cut-last : (j : ℕ) (e : Pieces ℕ) → Going f whole t c k n (cut a j e) (last b) → Answered a b → k′ s ≡ j → Going f whole ((f t (a, b)) .0) c′ k′ (s + 1) e (last b)
-      going-cut-last j e = going-step a b j (cut a j e) (last b) e (last b) (over-cut-last a b j e)
+      going-cut-last j e = going-step a b j (cut a j e) (last b) e (last b) (overlay-cut-last a b j e)
 
       module _ (j l : ℕ) (e g : Pieces ℕ) (x : Going f whole t c k n (cut a j e) (cut b l g)) (p : Answered a b) where
         pub going-less : j < l → k′ s ≡ j → Going f whole ((f t (a, b)) .0) c′ k′ (s + 1) e (cut b l g)
@@ -93,13 +93,13 @@ module _ (f : Table → ℕ × ℕ → Table × ℕ) where
         going-more h = going-step a b l (cut a j e) (cut b l g) (cut a j e) g (overlay-right a j e b l g h) x p
 
       -- the last step: the table is the whole's, and what stands in the slots is the whole's edges, merged
-      pub going-last : Going f whole t c k n (last a) (last b) → Answered a b → ((f t (a, b)) .0 ≡ whole .0) × (run c′ k′ 0 s ≡ merge (whole .1))
-      going-last x p =
-          let w = ap (walk f t) (over-last-last a b) ∙ walk-last f t (a, b) in
-          (sym (ap (λ (y : Table × Pieces ℕ). y .0) w) ∙ x .table, glue-last c k c′ k′ n s ((f t (a, b)) .1) (whole .1) (rw w at (x .glue)) p)
+      pub going-ends-whole : Going f whole t c k n (last a) (last b) → Answered a b → ((f t (a, b)) .0 ≡ whole .0) × (run c′ k′ 0 s ≡ merge (whole .1))
+      going-ends-whole x p =
+          let w = ap (walk f t) (overlay-last-last a b) ∙ walk-last f t (a, b) in
+          (sym (ap (λ (y : Table × Pieces ℕ). y .0) w) ∙ x .table, run-is-merge c k c′ k′ n s ((f t (a, b)) .1) (whole .1) (rw w at (x .glue)) p)
 
 -- the whole has more edges than were made, if the next answer is another child than the last
-pub going-over : (f : Table → ℕ × ℕ → Table × ℕ) (whole : Table × Pieces ℕ) (t : Table) (c k : ℕ → ℕ) (n : ℕ) (e g : Pieces ℕ)
+pub going-below-count : (f : Table → ℕ × ℕ → Table × ℕ) (whole : Table × Pieces ℕ) (t : Table) (c k : ℕ → ℕ) (n : ℕ) (e g : Pieces ℕ)
     → Going f whole t c k n e g → (0 < n → c (n - 1) ≡ (f t (first e, first g)) .1 → ⊥) → n < count (merge (whole .1))
-going-over f whole t c k n e g x h =
-    glue-over c k n (whole .1) ((walk f t (overlay e g)) .1) (x .glue) (λ l q. h l (q ∙ first-walk f t (overlay e g) ∙ ap (λ (p : ℕ × ℕ). (f t p) .1) (first-overlay e g)))
+going-below-count f whole t c k n e g x h =
+    glued-below-count c k n (whole .1) ((walk f t (overlay e g)) .1) (x .glue) (λ l q. h l (q ∙ first-walk f t (overlay e g) ∙ ap (λ (p : ℕ × ℕ). (f t p) .1) (first-overlay e g)))

@@ -30,9 +30,9 @@ module _ (f : Table → ℕ → Table × ℕ) (t : Table) (back : Bool) (n : ℕ
   unfolding tableAt
   table-next j = refl
 
-  pub answer-is : (j : ℕ) → answerAt j ≡ (f (tableAt j) (c (turn back n j))) .1
+  pub answer-at-turn : (j : ℕ) → answerAt j ≡ (f (tableAt j) (c (turn back n j))) .1
   unfolding answerAt
-  answer-is j = refl
+  answer-at-turn j = refl
 
 -- answers z, each in its child's place
 module _ (f : Table → ℕ → Table × ℕ) (t : Table) (n : ℕ) (c z k : ℕ → ℕ) where
@@ -61,10 +61,10 @@ module _ (f : Table → ℕ → Table × ℕ) (t : Table) (n : ℕ) (c z k : ℕ
       ∙ ap (λ (j : ℕ). ((f (tableAt f t true n c (suc m)) (c (n - suc m))) .0, cut (z j) (k i) (run z k (suc i) m))) e
 
   -- all turns are the walk
-  pub turns : (back : Bool) → ((j : ℕ) → j ≤ n → z (turn back n j) ≡ answerAt f t back n c j) → walkIn back f t (run c k 0 n) ≡ (tableAt f t back n c (suc n), run z k 0 n)
+  pub walk-run-by-turns : (back : Bool) → ((j : ℕ) → j ≤ n → z (turn back n j) ≡ answerAt f t back n c j) → walkIn back f t (run c k 0 n) ≡ (tableAt f t back n c (suc n), run z k 0 n)
   unfolding walkIn tableAt
-  turns true h = turns-back h 0 n (omega arith)
-  turns false h =
+  walk-run-by-turns true h = turns-back h 0 n (omega arith)
+  walk-run-by-turns false h =
       let e : 0 + n ≡ n = omega arith in
       turns-on h 0 n (omega arith) ∙ ap (λ (j : ℕ). (tableAt f t false n c (suc j), run z k 0 n)) e
 
@@ -75,10 +75,10 @@ turn-inside true n j h = omega arith
 turn-inside false n j h = h
 
 -- no two have one turn
-pub turn-apart : (back : Bool) (n : ℕ) (i j : ℕ) → i ≤ n → j ≤ n → turn back n i ≡ turn back n j → i ≡ j
+pub turn-inj : (back : Bool) (n : ℕ) (i j : ℕ) → i ≤ n → j ≤ n → turn back n i ≡ turn back n j → i ≡ j
 unfolding turn
-turn-apart true n i j h l e = omega arith
-turn-apart false n i j h l e = e
+turn-inj true n i j h l e = omega arith
+turn-inj false n i j h l e = e
 
 -- and the turn of a child's turn is the child
 pub turn-turn : (back : Bool) (n j : ℕ) → j ≤ n → turn back n (turn back n j) ≡ j
@@ -117,22 +117,22 @@ module _ (f : Table → ℕ → Table × ℕ) (t : Table) (back : Bool) (n : ℕ
   answer-child j l =
       let e : suc j + (n - j) ≡ suc n = omega arith in
       subst (λ (i : ℕ). Child (T i) u (answerAt f t back n c j)) e (continues-child (turned-later (suc j) (n - j) (omega arith)) u (answerAt f t back n c j)
-      (subst (λ (s : Table). Child s u (answerAt f t back n c j)) (sym (table-next f t back n c j)) (subst (Child ((f (T j) (c (turn back n j))) .0) u) (sym (answer-is f t back n c j)) (turn-made j l .child))))
+      (subst (λ (s : Table). Child s u (answerAt f t back n c j)) (sym (table-next f t back n c j)) (subst (Child ((f (T j) (c (turn back n j))) .0) u) (sym (answer-at-turn f t back n c j)) (turn-made j l .child))))
 
   -- and what does not fit at a turn does not fit at the end.
-  pub full-turn : (j : ℕ) → j ≤ n → (v : ℕ) (e : Pieces ℕ) (nodes edges : ℕ) → (Fits nodes edges ((f (T j) (c (turn back n j))) .0) → ⊥) → Fits nodes edges ((create-over v (T (suc n), e)) .0) → ⊥
-  full-turn j l v e nodes edges no-room fit =
+  pub not-fits-turn-full : (j : ℕ) → j ≤ n → (v : ℕ) (e : Pieces ℕ) (nodes edges : ℕ) → (Fits nodes edges ((f (T j) (c (turn back n j))) .0) → ⊥) → Fits nodes edges ((create-over v (T (suc n), e)) .0) → ⊥
+  not-fits-turn-full j l v e nodes edges no-room fit =
       let q : suc j + (n - j) ≡ suc n = omega arith in
       let g : Continues (T (suc j)) (T (suc n)) = subst (λ (i : ℕ). Continues (T (suc j)) (T i)) q (turned-later (suc j) (n - j) (omega arith)) in
       no-room (subst (Fits nodes edges) (table-next f t back n c j) (fits-before (continues-trans g (create-continues (T (suc n)) v e)) nodes edges fit))
 
 -- pieces by their numbers: all of them, and that rising is a matter of cuts
-pub each-of : (P : ℕ → Type 0) (c k : ℕ → ℕ) (i m : ℕ) → ((j : ℕ) → i ≤ j → j ≤ i + m → P (c j)) → Each P (run c k i m)
+pub each-of-run : (P : ℕ → Type 0) (c k : ℕ → ℕ) (i m : ℕ) → ((j : ℕ) → i ≤ j → j ≤ i + m → P (c j)) → Each P (run c k i m)
 unfolding run
-each-of P c k i zero h = h i (omega arith) (omega arith)
-each-of P c k i (suc m) h = (h i (omega arith) (omega arith), each-of P c k (suc i) m (λ j a b. h j (omega arith) (omega arith)))
+each-of-run P c k i zero h = h i (omega arith) (omega arith)
+each-of-run P c k i (suc m) h = (h i (omega arith) (omega arith), each-of-run P c k (suc i) m (λ j a b. h j (omega arith) (omega arith)))
 
-pub rising-of : (c d k : ℕ → ℕ) (b t i m : ℕ) → Rising b t (run c k i m) → Rising b t (run d k i m)
+pub rising-same-cuts : (c d k : ℕ → ℕ) (b t i m : ℕ) → Rising b t (run c k i m) → Rising b t (run d k i m)
 unfolding run
-rising-of c d k b t i zero r = r
-rising-of c d k b t i (suc m) r = (r .0, r .1, rising-of c d k (k i) t (suc i) m (r .2))
+rising-same-cuts c d k b t i zero r = r
+rising-same-cuts c d k b t i (suc m) r = (r .0, r .1, rising-same-cuts c d k (k i) t (suc i) m (r .2))

@@ -26,10 +26,10 @@ use Rattle.ranges.proofs.Machine.{key-fits, key-back}
 abbrev Held : Bound → Type 0
 Held b = Is the-row b (vals the-type the-laws b)
 
-pub keyed : (b : Bound) → Held b → Keyed b
-keyed Open h = tt
-keyed (Includes v) h = key-fits v (owed the-type the-laws (Includes v) (vals the-type the-laws (Includes v)) h .0 .1)
-keyed (Excludes v) h = key-fits v (owed the-type the-laws (Excludes v) (vals the-type the-laws (Excludes v)) h .0 .1)
+pub held-keyed : (b : Bound) → Held b → Keyed b
+held-keyed Open h = tt
+held-keyed (Includes v) h = key-fits v (owed the-type the-laws (Includes v) (vals the-type the-laws (Includes v)) h .0 .1)
+held-keyed (Excludes v) h = key-fits v (owed the-type the-laws (Excludes v) (vals the-type the-laws (Excludes v)) h .0 .1)
 
 -- The position of a bound's key, as the first or the last of a range, and as the one beside.
 pub record At (b : Bound) (q : ℕ) : Type 0 where
@@ -46,11 +46,11 @@ exact : (v : ℤ) (q : ℕ) → Key v → q ≡ position (exactly (toZ w32 (ofZ 
 exact v q h r = rw (key-back v h) at r
 
 pub included : {b : Bound} {v : ℤ} {q : ℕ} → Held b → b ≡ Includes v → q ≡ position (exactly (toZ w32 (ofZ w32 v))) → At b q
-included {b} {v} {q} o e r = let x = exact v q (subst Keyed e (keyed b o)) r in rw e (record { first = x; last = x })
+included {b} {v} {q} o e r = let x = exact v q (subst Keyed e (held-keyed b o)) r in rw e (record { first = x; last = x })
 
 pub excluded : {b : Bound} {v : ℤ} {q : ℕ} → Held b → b ≡ Excludes v → q ≡ position (exactly (toZ w32 (ofZ w32 v))) → Beside b q
 excluded {b} {v} {q} o e r =
-    let h : Key v = subst Keyed e (keyed b o) in
+    let h : Key v = subst Keyed e (held-keyed b o) in
     let x = exact v q h r in
     let l = exactly-between v h in
     rw e (omega (arith, position-next (exactly v) (place-exactly v h), position-before (exactly v)))

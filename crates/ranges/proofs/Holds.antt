@@ -43,11 +43,11 @@ module _ {r : Range} {t : Bool} (e : Emptiness r t) where
   itself : holds r (r .first) ≡ leb (r .first) (r .last)
   itself = holds-is r (r .first) (r .first) (r .last) (omega arith)
 
-  pub none : t ≡ true → r .last < r .first
-  none h = leb-false (r .first) (r .last) (sym itself ∙ e .yes h (r .first))
+  pub range-last-lt-first : t ≡ true → r .last < r .first
+  range-last-lt-first h = leb-false (r .first) (r .last) (sym itself ∙ e .yes h (r .first))
 
-  pub some : t ≡ false → r .first ≤ r .last
-  some h = leb-true (r .first) (r .last) (sym itself ∙ e .no h)
+  pub range-first-le-last : t ≡ false → r .first ≤ r .last
+  range-first-le-last h = leb-true (r .first) (r .last) (sym itself ∙ e .no h)
 
 -- What a range leaves of the line.
 pub outside-empty : (r : Range) → r .last < r .first → Outside r (record { left = record { first = 0; last = top }; right = record { first = 1; last = 0 } })

@@ -23,8 +23,8 @@ module _ (lower upper : Bound) (kl : Keyed lower) (ku : Keyed upper) where
   abbrev hi : ℕ
   hi = position (lastPlace upper)
 
-  pub first-last : empty lower upper ≡ false → position (firstPlace lower) ≤ position (lastPlace upper)
-  first-last e = ltb-false hi lo (sym (empty-positions lower upper kl ku) ∙ e)
+  pub first-place-le-last : empty lower upper ≡ false → position (firstPlace lower) ≤ position (lastPlace upper)
+  first-place-le-last e = ltb-false hi lo (sym (empty-positions lower upper kl ku) ∙ e)
 
   pub place-nearest : (p : ℤ) → Place p → Place (nearest lower upper p)
   place-nearest p h = go (ltZ p (firstPlace lower)) (ltZ (lastPlace upper) p)
@@ -38,8 +38,8 @@ module _ (lower upper : Bound) (kl : Keyed lower) (ku : Keyed upper) where
   position-nearest e p h = go (ltZ p (firstPlace lower)) (ltZ (lastPlace upper) p) (sym (position-ltZ p (firstPlace lower) h (place-first lower kl))) (sym (position-ltZ (lastPlace upper) p (place-last upper ku) h))
     where
       go : (a b : Bool) → ltb (position p) lo ≡ a → ltb hi (position p) ≡ b → position (cond a (firstPlace lower) (cond b (lastPlace upper) p)) ≡ max lo (min (position p) hi)
-      go true b x y = omega (arith, ltb-true (position p) lo x, first-last e)
-      go false true x y = omega (arith, ltb-true hi (position p) y, first-last e)
+      go true b x y = omega (arith, ltb-true (position p) lo x, first-place-le-last e)
+      go false true x y = omega (arith, ltb-true hi (position p) y, first-place-le-last e)
       go false false x y = omega (arith, ltb-false (position p) lo x, ltb-false hi (position p) y)
 
   -- it is inside
@@ -47,7 +47,7 @@ module _ (lower upper : Bound) (kl : Keyed lower) (ku : Keyed upper) where
   nearest-inside e p h =
       let q = position-nearest e p h in
       inside-positions lower upper kl ku (nearest lower upper p) (place-nearest p h)
-      ∙ rw (le-leb lo (position (nearest lower upper p)) (omega arith), le-leb (position (nearest lower upper p)) hi (omega (arith, first-last e)))
+      ∙ rw (le-leb lo (position (nearest lower upper p)) (omega arith), le-leb (position (nearest lower upper p)) hi (omega (arith, first-place-le-last e)))
 
   -- and no place inside is nearer
   pub nearest-least : empty lower upper ≡ false → (p : ℤ) → Place p → (q : ℤ) → Place q → inside lower upper q ≡ true → distance p (nearest lower upper p) ≤ distance p q

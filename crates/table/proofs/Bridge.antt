@@ -79,7 +79,7 @@ module _ (children : List ℕ) (cuts : List ℤ) where
       let l = cut-position-le (cutAt cuts (e + j)) in (
         r .rise j (omega arith),
         omega arith,
-        (λ x. d j (omega arith) (laws.at children (e + (j + 1)) (suc (e + j)) b ∙ sym (x ∙ first-from (suc (e + j)) m))),
+        (λ x. d j (omega arith) (laws.getD-at-equal children (e + (j + 1)) (suc (e + j)) b ∙ sym (x ∙ first-from (suc (e + j)) m))),
         subst (λ (i : ℕ). Reduced (cutPosition (cutAt cuts (e + j))) (2 ^ 33) (edgesFrom children cuts i m)) a (canon-from e n m (suc j) (omega arith) r d),
       )
 
@@ -92,10 +92,10 @@ module _ (children : List ℕ) (cuts : List ℤ) where
 
   pub kid-from : (i m j : ℕ) → j ≤ m → kid-of (edgesFrom children cuts i m) j ≡ kidAt children (i + j)
   unfolding edgesFrom kid-of
-  kid-from i zero zero l = let a : i ≡ i + 0 = omega arith in laws.at children i (i + 0) a
+  kid-from i zero zero l = let a : i ≡ i + 0 = omega arith in laws.getD-at-equal children i (i + 0) a
   kid-from i zero (suc j) l = absurd (omega arith)
-  kid-from i (suc m) zero l = let a : i ≡ i + 0 = omega arith in laws.at children i (i + 0) a
-  kid-from i (suc m) (suc j) l = let b : suc i + j ≡ i + suc j = omega arith in kid-from (suc i) m j (omega arith) ∙ laws.at children (suc i + j) (i + suc j) b
+  kid-from i (suc m) zero l = let a : i ≡ i + 0 = omega arith in laws.getD-at-equal children i (i + 0) a
+  kid-from i (suc m) (suc j) l = let b : suc i + j ≡ i + suc j = omega arith in kid-from (suc i) m j (omega arith) ∙ laws.getD-at-equal children (suc i + j) (i + suc j) b
 
   pub cut-from : (i m j : ℕ) → j < m → cut-of (edgesFrom children cuts i m) j ≡ cutPosition (cutAt cuts (i + j))
   unfolding edgesFrom cut-of
@@ -105,7 +105,7 @@ module _ (children : List ℕ) (cuts : List ℤ) where
 
   -- equal edges come from equal runs
   pub same-runs : (a b m n : ℕ) → 1 ≤ m → 1 ≤ n → Climbs cuts a m → Climbs cuts b n → edgesFrom children cuts a (m - 1) ≡ edgesFrom children cuts b (n - 1) → (m ≡ n) × SameRun children cuts a b n
-  same-runs a b m n hm hn ra rb q = (c, record { child = λ j l. sym (kid-from a (m - 1) j (omega (arith, c))) ∙ (ap (λ (e : (Pieces ℕ)). kid-of e j) q ∙ kid-from b (n - 1) j (omega arith)); cut = λ j l. go j l (laws.split (j + 1) n) })
+  same-runs a b m n hm hn ra rb q = (c, record { child = λ j l. sym (kid-from a (m - 1) j (omega (arith, c))) ∙ (ap (λ (e : (Pieces ℕ)). kid-of e j) q ∙ kid-from b (n - 1) j (omega arith)); cut = λ j l. go j l (laws.lt-or-le (j + 1) n) })
     where
       c : m ≡ n
       c = omega (arith, ap count q, count-from a (m - 1), count-from b (n - 1))
@@ -146,10 +146,10 @@ record Fine (t : Table) (v : ℕ) (es : (Pieces ℕ)) : Type 0 where
   pub children : Each (Child t (suc v)) es
 
 module _ (st : Store) where
-  pub table-at : (n i : ℕ) → i < n → at (held st n) (suc i) ≡ nodeAt st i
+  pub at-held : (n i : ℕ) → i < n → at (held st n) (suc i) ≡ nodeAt st i
   unfolding held
-  table-at zero i h = absurd (omega arith)
-  table-at (suc n) i h = go (ℕ-discrete i n) (λ l. table-at n i l)
+  at-held zero i h = absurd (omega arith)
+  at-held (suc n) i h = go (ℕ-discrete i n) (λ l. at-held n i l)
     where
       e : length (held st n) ≡ n
       e = table-length st n
@@ -178,7 +178,7 @@ module _ (st : Store) where
           let q = ap (λ (x : Node). x .var) (ap (at (held st n)) z ∙ at-zero n) in
           (omega (arith, l), omega (arith, q))
       go (suc m) z =
-          let q = ap (λ (x : Node). x .var) (ap (at (held st n)) z ∙ table-at n m (omega (arith, a .0))) in
+          let q = ap (λ (x : Node). x .var) (ap (at (held st n)) z ∙ at-held n m (omega (arith, a .0))) in
           let w : c / 2 - 1 ≡ m = omega arith in
           let y = ap (varAt (st .nodes)) w in
           (omega (arith, l, a .0), omega (arith, q, y, a .1))
@@ -204,7 +204,7 @@ module _ (st : Store) where
       let t = bool-top (varAt (st .nodes) n) h in
       record {
         many = omega arith;
-        rising = (omega arith, omega arith, (λ q. r .edges .differ 0 (omega arith) (sym q ∙ sym (laws.at (st .children) (e + 0) e a))), omega arith);
+        rising = (omega arith, omega arith, (λ q. r .edges .differ 0 (omega arith) (sym q ∙ sym (laws.getD-at-equal (st .children) (e + 0) e a))), omega arith);
         plain = r .plain;
         children = (
           subst (λ (x : ℕ). Child (held st n) (suc (varAt (st .nodes) n)) (kidAt (st .children) x)) a (kid-ok n (varAt (st .nodes) n) (kidAt (st .children) (e + 0)) (r .known) (r .edges .stand 0 (omega arith))),
@@ -214,11 +214,11 @@ module _ (st : Store) where
 
   fine : (n : ℕ) → Rules st n → Fine (held st n) (varAt (st .nodes) n) (nodeAt st n .edges)
   fine n r = ⊎-elim (λ h. subst (Fine (held st n) (varAt (st .nodes) n)) (sym (range-edges (st .children) (st .cuts) (varAt (st .nodes) n) (firstAt (st .nodes) n) (countAt (st .nodes) n) h)) (fine-range n r h))
-      (λ h. subst (Fine (held st n) (varAt (st .nodes) n)) (sym (bool-edges (st .children) (st .cuts) (varAt (st .nodes) n) (firstAt (st .nodes) n) (countAt (st .nodes) n) h)) (fine-bool n r h)) (laws.split (varAt (st .nodes) n) 32)
+      (λ h. subst (Fine (held st n) (varAt (st .nodes) n)) (sym (bool-edges (st .children) (st .cuts) (varAt (st .nodes) n) (firstAt (st .nodes) n) (countAt (st .nodes) n) h)) (fine-bool n r h)) (laws.lt-or-le (varAt (st .nodes) n) 32)
 
   -- equal nodes are the same records
   same-node : (m n : ℕ) → Rules st m → Rules st n → nodeAt st m ≡ nodeAt st n → SameRecord st m n
-  same-node m n rm rn q = ⊎-elim ranges booleans (laws.split (varAt (st .nodes) n) 32)
+  same-node m n rm rn q = ⊎-elim ranges booleans (laws.lt-or-le (varAt (st .nodes) n) 32)
     where
       v : varAt (st .nodes) m ≡ varAt (st .nodes) n
       v = ap (λ (x : Node). x .var) q
@@ -247,7 +247,7 @@ module _ (st : Store) where
           b = firstAt (st .nodes) n
 
           child : (j : ℕ) → j < 2 → _≡_ {A = (Pieces ℕ)} (cut (kidAt (st .children) a) 1 (last (kidAt (st .children) (a + 1)))) (cut (kidAt (st .children) b) 1 (last (kidAt (st .children) (b + 1)))) → kidAt (st .children) (a + j) ≡ kidAt (st .children) (b + j)
-          child zero l s = let x : a + 0 ≡ a = omega arith in let y : b ≡ b + 0 = omega arith in let z : kidAt (st .children) a ≡ kidAt (st .children) b = cc in laws.at (st .children) (a + 0) a x ∙ (z ∙ laws.at (st .children) b (b + 0) y)
+          child zero l s = let x : a + 0 ≡ a = omega arith in let y : b ≡ b + 0 = omega arith in let z : kidAt (st .children) a ≡ kidAt (st .children) b = cc in laws.getD-at-equal (st .children) (a + 0) a x ∙ (z ∙ laws.getD-at-equal (st .children) b (b + 0) y)
           child (suc zero) l s = cc
           child (suc (suc j)) l s = absurd (omega arith)
 
@@ -263,12 +263,12 @@ module _ (st : Store) where
       fresh zero l q = omega (arith, ap (λ (x : Node). x .var) (sym (at-zero n) ∙ q), rules n (omega arith) .known)
       fresh (suc m) l q =
           let h : m < n = omega (arith, table-length st n) in
-          single m h (same-node m n (rules m (omega arith)) (rules n (omega arith)) (sym (table-at n m h) ∙ q))
+          single m h (same-node m n (rules m (omega arith)) (rules n (omega arith)) (sym (at-held n m h) ∙ q))
 
   ordered-to : (index : List ℕ) (u : ℕ) → SoundLent st index u → (n : ℕ) → n ≤ u → Sound (held st n)
   unfolding held
   ordered-to index u s zero h = tt
   ordered-to index u s (suc n) h = (good n (λ m l. s .records .rules m (omega arith)) (λ m l. s .records .single m n l (omega arith)), ordered-to index u s n (omega arith))
 
-  pub ordered : (index : List ℕ) (u : ℕ) → SoundLent st index u → Sound (held st u)
-  ordered index u s = ordered-to index u s u (omega arith)
+  pub sound-held : (index : List ℕ) (u : ℕ) → SoundLent st index u → Sound (held st u)
+  sound-held index u s = ordered-to index u s u (omega arith)

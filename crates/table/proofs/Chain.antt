@@ -10,7 +10,7 @@ use lib.ListN.{length, getD}
 use Rattle.table.specs.Indexed.{LastIn}
 use Rattle.table.specs.Checking.{Down, here, there}
 use Rattle.table.proofs.Laws as laws
-use Rattle.table.proofs.Laws.{down-le, split}
+use Rattle.table.proofs.Laws.{down-le, lt-or-le}
 
 -- x is 0 or one more than a node before n of bucket b
 pub record Points (bucket : ℕ → ℕ) (b n x : ℕ) : Type 0 where
@@ -23,8 +23,8 @@ pub data Order (a b : ℕ) : Type 0 where
   equal : a ≡ b → Order a b
   more : b < a → Order a b
 
-pub order : (a b : ℕ) → Order a b
-order a b = ⊎-elim (λ l. less l) (λ g. ⊎-elim (λ e. equal (sym e)) (λ m. more m) (eq-or-lt-of-le g)) (split a b)
+pub lt-eq-or-gt : (a b : ℕ) → Order a b
+lt-eq-or-gt a b = ⊎-elim (λ l. less l) (λ g. ⊎-elim (λ e. equal (sym e)) (λ m. more m) (eq-or-lt-of-le g)) (lt-or-le a b)
 
 module _ {index : List ℕ} {r : ℕ} where
   pub step : {k y : ℕ} → y < suc k → Down index r (suc k) y → Down index r (getD index (r + k) 0) y
@@ -62,7 +62,7 @@ module _ (B : ℕ → ℕ) (index : List ℕ) (r : ℕ) where
   reach u (suc f) m i j nexts b zero l k h e = absurd (l .none k (omega arith) h e)
   reach u (suc f) m i j nexts b (suc y) l k h e =
       let a = l .before in
-      go (order k y) (λ q. reach u f y (omega arith) (omega arith) nexts (B y) (getD index (r + y) 0) (nexts y (omega arith)) k q (e ∙ sym (l .own y refl)))
+      go (lt-eq-or-gt k y) (λ q. reach u f y (omega arith) (omega arith) nexts (B y) (getD index (r + y) 0) (nexts y (omega arith)) k q (e ∙ sym (l .own y refl)))
     where
       go : Order k y → (k < y → Down index r (getD index (r + y) 0) (suc k)) → Down index r (suc y) (suc k)
       go (less q) rec = there (nexts y (omega (arith, l .before)) .before) (rec q)

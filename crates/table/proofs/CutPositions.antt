@@ -55,14 +55,14 @@ cut-position-down (negsuc m) (pos n) a b l = record { lt = tt }
 cut-position-down (negsuc m) (negsuc n) a b l = record { lt = lt→ltb n m (omega arith) }
 
 module _ (cuts : List ℤ) (e count : ℕ) where
-  pub to-document : Climbs cuts e count → Cuts cuts e count
-  to-document r = record { within = cut; strictly = λ j l. cut-position-down (cutAt cuts (e + j)) (cutAt cuts (e + (j + 1))) (cut j (omega arith)) (cut (j + 1) (omega arith)) (omega (arith, r .rise (j + 1) (omega arith), laws.below-next cuts e j)); last = r .last }
+  pub cuts-from-climbs : Climbs cuts e count → Cuts cuts e count
+  cuts-from-climbs r = record { within = cut; strictly = λ j l. cut-position-down (cutAt cuts (e + j)) (cutAt cuts (e + (j + 1))) (cut j (omega arith)) (cut (j + 1) (omega arith)) (omega (arith, r .rise (j + 1) (omega arith), laws.below-next cuts e j)); last = r .last }
     where
       cut : (j : ℕ) → j + 1 < count → Cut (cutAt cuts (e + j))
       cut j l = is-cut (cutAt cuts (e + j)) (omega (arith, r .rise j l))
 
-  pub from-document : Cuts cuts e count → Climbs cuts e count
-  from-document r = record { rise = rise; last = r .last }
+  pub climbs-from-cuts : Cuts cuts e count → Climbs cuts e count
+  climbs-from-cuts r = record { rise = rise; last = r .last }
     where
       rise : (j : ℕ) → j + 1 < count → below cuts e j < cutPosition (cutAt cuts (e + j))
       rise zero l = has-position (cutAt cuts (e + 0)) (r .within 0 l)
@@ -73,4 +73,4 @@ module _ (cuts : List ℤ) (e count : ℕ) where
 
 -- the cuts of a record that keeps the rules climb
 pub climbs : (st : Store) (n : ℕ) → Rules st n → varAt (st .nodes) n < firstBoolean → Climbs (st .cuts) (firstAt (st .nodes) n) (countAt (st .nodes) n)
-climbs st n r h = from-document (st .cuts) (firstAt (st .nodes) n) (countAt (st .nodes) n) (r .ranges h)
+climbs st n r h = climbs-from-cuts (st .cuts) (firstAt (st .nodes) n) (countAt (st .nodes) n) (r .ranges h)

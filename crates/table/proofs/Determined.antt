@@ -16,13 +16,13 @@ use Rattle.table.specs.Lent.{Rules, Blank, SoundLent}
 use Rattle.table.specs.Held.{nodeAt, held}
 use Rattle.table.proofs.Laws as laws
 use Rattle.table.proofs.CutPositions.{climbs}
-use Rattle.table.proofs.Chain.{Order, less, equal, more, order}
+use Rattle.table.proofs.Chain.{Order, less, equal, more, lt-eq-or-gt}
 use Rattle.table.proofs.Scan.{table-length}
-use Rattle.table.proofs.Bridge.{count-from, kid-of, kid-from, cut-of, cut-from, range-edges, bool-edges, table-at, cut-position-one}
+use Rattle.table.proofs.Bridge.{count-from, kid-of, kid-from, cut-of, cut-from, range-edges, bool-edges, at-held, cut-position-one}
 
 -- the index word is determined
-pub last-one : (B : ℕ → ℕ) (b n x y : ℕ) → LastIn B b n x → LastIn B b n y → x ≡ y
-last-one B b n x y p q = go (order x y) p q
+pub last-in-unique : (B : ℕ → ℕ) (b n x y : ℕ) → LastIn B b n x → LastIn B b n y → x ≡ y
+last-in-unique B b n x y p q = go (lt-eq-or-gt x y) p q
   where
     high : (x y : ℕ) → x < y → LastIn B b n x → LastIn B b n y → ⊥
     high x zero l p q = omega arith
@@ -40,7 +40,7 @@ pub data Located (nodes : List ℕ) (u i : ℕ) : Type 0 where
 pub locate : (nodes : List ℕ) (u i : ℕ) → i < start nodes u → Located nodes u i
 unfolding start
 locate nodes zero i h = absurd (omega arith)
-locate nodes (suc u) i h = ⊎-elim (λ l. further (locate nodes u i l)) (λ g. found u (i - start nodes u) (omega arith) (omega arith) (omega arith)) (laws.split i (start nodes u))
+locate nodes (suc u) i h = ⊎-elim (λ l. further (locate nodes u i l)) (λ g. found u (i - start nodes u) (omega arith) (omega arith) (omega arith)) (laws.lt-or-le i (start nodes u))
   where
     further : Located nodes u i → Located nodes (suc u) i
     further (found n j a b e) = found n j (omega arith) b e
@@ -49,18 +49,18 @@ locate nodes (suc u) i h = ⊎-elim (λ l. further (locate nodes u i l)) (λ g. 
 module _ (st : Store) (n : ℕ) (r : Rules st n) where
   pub count-node : count (nodeAt st n .edges) ≡ countAt (st .nodes) n
   count-node = ⊎-elim (λ h. ap count (range-edges (st .children) (st .cuts) (varAt (st .nodes) n) (firstAt (st .nodes) n) (countAt (st .nodes) n) h) ∙ (count-from (st .children) (st .cuts) (firstAt (st .nodes) n) (countAt (st .nodes) n - 1) ∙ (let a = r .many in let e : suc (countAt (st .nodes) n - 1) ≡ countAt (st .nodes) n = omega arith in e)))
-      (λ h. ap count (bool-edges (st .children) (st .cuts) (varAt (st .nodes) n) (firstAt (st .nodes) n) (countAt (st .nodes) n) h) ∙ sym (r .two h)) (laws.split (varAt (st .nodes) n) 32)
+      (λ h. ap count (bool-edges (st .children) (st .cuts) (varAt (st .nodes) n) (firstAt (st .nodes) n) (countAt (st .nodes) n) h) ∙ sym (r .two h)) (laws.lt-or-le (varAt (st .nodes) n) 32)
 
   pub kid-node : (j : ℕ) → j < countAt (st .nodes) n → kid-of (nodeAt st n .edges) j ≡ kidAt (st .children) (start (st .nodes) n + j)
   unfolding kid-of
   kid-node j l = ⊎-elim (λ h. ap (λ (e : (Pieces ℕ)). kid-of e j) (range-edges (st .children) (st .cuts) (varAt (st .nodes) n) (firstAt (st .nodes) n) (countAt (st .nodes) n) h) ∙ (kid-from (st .children) (st .cuts) (firstAt (st .nodes) n) (countAt (st .nodes) n - 1) j (omega arith) ∙ to-start))
-      (λ h. ap (λ (e : (Pieces ℕ)). kid-of e j) (bool-edges (st .children) (st .cuts) (varAt (st .nodes) n) (firstAt (st .nodes) n) (countAt (st .nodes) n) h) ∙ (two j (omega (arith, r .two h)) ∙ to-start)) (laws.split (varAt (st .nodes) n) 32)
+      (λ h. ap (λ (e : (Pieces ℕ)). kid-of e j) (bool-edges (st .children) (st .cuts) (varAt (st .nodes) n) (firstAt (st .nodes) n) (countAt (st .nodes) n) h) ∙ (two j (omega (arith, r .two h)) ∙ to-start)) (laws.lt-or-le (varAt (st .nodes) n) 32)
     where
       to-start : kidAt (st .children) (firstAt (st .nodes) n + j) ≡ kidAt (st .children) (start (st .nodes) n + j)
       to-start = ap (λ (i : ℕ). kidAt (st .children) (i + j)) (r .packed)
 
       two : (j : ℕ) → j < 2 → kid-of (cut (kidAt (st .children) (firstAt (st .nodes) n)) 1 (last (kidAt (st .children) (firstAt (st .nodes) n + 1)))) j ≡ kidAt (st .children) (firstAt (st .nodes) n + j)
-      two zero l = let a : firstAt (st .nodes) n ≡ firstAt (st .nodes) n + 0 = omega arith in laws.at (st .children) (firstAt (st .nodes) n) (firstAt (st .nodes) n + 0) a
+      two zero l = let a : firstAt (st .nodes) n ≡ firstAt (st .nodes) n + 0 = omega arith in laws.getD-at-equal (st .children) (firstAt (st .nodes) n) (firstAt (st .nodes) n + 0) a
       two (suc zero) l = refl
       two (suc (suc j)) l = absurd (omega arith)
 
@@ -88,7 +88,7 @@ module _ (st : Store) (n : ℕ) (r : Rules st n) where
 module _ (st : Store) (index : List ℕ) (st' : Store) (index' : List ℕ) (u : ℕ)
     (s : SoundLent st index u) (s' : SoundLent st' index' u) (means : held st u ≡ held st' u) where
   node : (n : ℕ) → n < u → nodeAt st n ≡ nodeAt st' n
-  node n l = sym (table-at st u n l) ∙ (ap (λ (t : Table). at t (suc n)) means ∙ table-at st' u n l)
+  node n l = sym (at-held st u n l) ∙ (ap (λ (t : Table). at t (suc n)) means ∙ at-held st' u n l)
 
   var : (n : ℕ) → n < u → varAt (st .nodes) n ≡ varAt (st' .nodes) n
   var n l = ap (λ (x : Node). x .var) (node n l)
@@ -105,32 +105,32 @@ module _ (st : Store) (index : List ℕ) (st' : Store) (index' : List ℕ) (u : 
   starts (suc n) h = let a = starts n (omega arith) in let b = counts n (omega arith) in omega arith
 
   word : (i : ℕ) → getD (st .nodes) i 0 ≡ getD (st' .nodes) i 0
-  word i = ⊎-elim (λ l. used (i / 4) (i % 4) (omega arith) (omega arith) (omega arith)) (λ g. s .records .no-node i g ∙ sym (s' .records .no-node i g)) (laws.split i (u * 4))
+  word i = ⊎-elim (λ l. used (i / 4) (i % 4) (omega arith) (omega arith) (omega arith)) (λ g. s .records .no-node i g ∙ sym (s' .records .no-node i g)) (laws.lt-or-le i (u * 4))
     where
       move : (n k : ℕ) → i ≡ n * 4 + k → getD (st .nodes) (n * 4 + k) 0 ≡ getD (st' .nodes) (n * 4 + k) 0 → getD (st .nodes) i 0 ≡ getD (st' .nodes) i 0
-      move n k e q = laws.at (st .nodes) i (n * 4 + k) e ∙ (q ∙ sym (laws.at (st' .nodes) i (n * 4 + k) e))
+      move n k e q = laws.getD-at-equal (st .nodes) i (n * 4 + k) e ∙ (q ∙ sym (laws.getD-at-equal (st' .nodes) i (n * 4 + k) e))
 
       used : (n k : ℕ) → i ≡ n * 4 + k → k < 4 → n < u → getD (st .nodes) i 0 ≡ getD (st' .nodes) i 0
-      used n zero e h l = let a : n * 4 + 0 ≡ n * 4 = omega arith in move n 0 e (laws.at (st .nodes) (n * 4 + 0) (n * 4) a ∙ (var n l ∙ sym (laws.at (st' .nodes) (n * 4 + 0) (n * 4) a)))
+      used n zero e h l = let a : n * 4 + 0 ≡ n * 4 = omega arith in move n 0 e (laws.getD-at-equal (st .nodes) (n * 4 + 0) (n * 4) a ∙ (var n l ∙ sym (laws.getD-at-equal (st' .nodes) (n * 4 + 0) (n * 4) a)))
       used n (suc zero) e h l = move n 1 e (counts n l)
       used n (suc (suc zero)) e h l = move n 2 e (s .records .rules n l .packed ∙ (starts n (omega arith) ∙ sym (s' .records .rules n l .packed)))
       used n (suc (suc (suc zero))) e h l = move n 3 e (s .records .rules n l .spare ∙ sym (s' .records .rules n l .spare))
       used n (suc (suc (suc (suc k)))) e h l = absurd (omega arith)
 
   child : (i : ℕ) → kidAt (st .children) i ≡ kidAt (st' .children) i
-  child i = ⊎-elim (λ l. used (locate (st .nodes) u i l)) (λ g. s .records .no-child i g ∙ sym (s' .records .no-child i (omega (arith, starts u (omega arith))))) (laws.split i (start (st .nodes) u))
+  child i = ⊎-elim (λ l. used (locate (st .nodes) u i l)) (λ g. s .records .no-child i g ∙ sym (s' .records .no-child i (omega (arith, starts u (omega arith))))) (laws.lt-or-le i (start (st .nodes) u))
     where
       used : Located (st .nodes) u i → kidAt (st .children) i ≡ kidAt (st' .children) i
       used (found n j l h e) =
           let a = starts n (omega arith) in
-          laws.at (st .children) i (start (st .nodes) n + j) e ∙ (sym (kid-node st n (s .records .rules n l) j h) ∙ (ap (λ (x : (Pieces ℕ)). kid-of x j) (edges n l)
-          ∙ (kid-node st' n (s' .records .rules n l) j (omega (arith, counts n l)) ∙ laws.at (st' .children) (start (st' .nodes) n + j) i (omega arith))))
+          laws.getD-at-equal (st .children) i (start (st .nodes) n + j) e ∙ (sym (kid-node st n (s .records .rules n l) j h) ∙ (ap (λ (x : (Pieces ℕ)). kid-of x j) (edges n l)
+          ∙ (kid-node st' n (s' .records .rules n l) j (omega (arith, counts n l)) ∙ laws.getD-at-equal (st' .children) (start (st' .nodes) n + j) i (omega arith))))
 
   cut-cell : (i : ℕ) → cutAt (st .cuts) i ≡ cutAt (st' .cuts) i
-  cut-cell i = ⊎-elim (λ l. used (locate (st .nodes) u i l)) (λ g. s .records .no-cut i g ∙ sym (s' .records .no-cut i (omega (arith, starts u (omega arith))))) (laws.split i (start (st .nodes) u))
+  cut-cell i = ⊎-elim (λ l. used (locate (st .nodes) u i l)) (λ g. s .records .no-cut i g ∙ sym (s' .records .no-cut i (omega (arith, starts u (omega arith))))) (laws.lt-or-le i (start (st .nodes) u))
     where
       used : Located (st .nodes) u i → cutAt (st .cuts) i ≡ cutAt (st' .cuts) i
-      used (found n j l h e) = let a = starts n (omega arith) in let b : i ≡ start (st' .nodes) n + j = omega arith in ap (cutAt (st .cuts)) e ∙ (both (laws.split (varAt (st .nodes) n) 32) (laws.split (j + 1) (countAt (st .nodes) n)) ∙ sym (ap (cutAt (st' .cuts)) b))
+      used (found n j l h e) = let a = starts n (omega arith) in let b : i ≡ start (st' .nodes) n + j = omega arith in ap (cutAt (st .cuts)) e ∙ (both (laws.lt-or-le (varAt (st .nodes) n) 32) (laws.lt-or-le (j + 1) (countAt (st .nodes) n)) ∙ sym (ap (cutAt (st' .cuts)) b))
         where
           r : Rules st n
           r = s .records .rules n l
@@ -168,10 +168,10 @@ same-index st index index' u s s' long = ext-getD 0 index index' long (λ i l. c
     B = bucketAt st
 
     cell : (i : ℕ) → getD index i 0 ≡ getD index' i 0
-    cell i = ⊎-elim (λ l. last-one (bucketAt st) i u _ _ (s .indexed .heads i l) (s' .indexed .heads i l)) (λ g. ⊎-elim (λ l. next (i - room (st .nodes)) (omega arith) (omega arith)) (λ h. s .indexed .no-next i h ∙ sym (s' .indexed .no-next i h)) (laws.split i (room (st .nodes) + u))) (laws.split i (room (st .nodes)))
+    cell i = ⊎-elim (λ l. last-in-unique (bucketAt st) i u _ _ (s .indexed .heads i l) (s' .indexed .heads i l)) (λ g. ⊎-elim (λ l. next (i - room (st .nodes)) (omega arith) (omega arith)) (λ h. s .indexed .no-next i h ∙ sym (s' .indexed .no-next i h)) (laws.lt-or-le i (room (st .nodes) + u))) (laws.lt-or-le i (room (st .nodes)))
       where
         next : (n : ℕ) → i ≡ room (st .nodes) + n → n < u → getD index i 0 ≡ getD index' i 0
-        next n e l = laws.at index i (room (st .nodes) + n) e ∙ (last-one (bucketAt st) (bucketAt st n) n _ _ (s .indexed .nexts n l) (s' .indexed .nexts n l) ∙ sym (laws.at index' i (room (st .nodes) + n) e))
+        next n e l = laws.getD-at-equal index i (room (st .nodes) + n) e ∙ (last-in-unique (bucketAt st) (bucketAt st n) n _ _ (s .indexed .nexts n l) (s' .indexed .nexts n l) ∙ sym (laws.getD-at-equal index' i (room (st .nodes) + n) e))
 
 -- words that are the same list by list
 pub same-store : {st st' : Store} → st .nodes ≡ st' .nodes → st .children ≡ st' .children → st .cuts ≡ st' .cuts → st ≡ st'

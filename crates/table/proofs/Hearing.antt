@@ -37,18 +37,18 @@ spots-reading places bools ok = fun-ext (λ v. go v (isRange v) refl)
     go v false e = digit (bit bools (v - firstBoolean)) (omega arith)
 
 -- the range test decides whether an id is known
-pub known : (u id : ℕ) {b : Bool} → b ≡ leb (ref id) u → b ≡ true → KnownTo u id
-known u id e t = leb-true (ref id) u (sym e ∙ t)
+pub known-when-true : (u id : ℕ) {b : Bool} → b ≡ leb (ref id) u → b ≡ true → KnownTo u id
+known-when-true u id e t = leb-true (ref id) u (sym e ∙ t)
 
-pub unknown : (u id : ℕ) {b : Bool} → b ≡ leb (ref id) u → b ≡ false → KnownTo u id → ⊥
-unknown u id e f k = omega (arith, leb-false (ref id) u (sym e ∙ f))
+pub unknown-when-false : (u id : ℕ) {b : Bool} → b ≡ leb (ref id) u → b ≡ false → KnownTo u id → ⊥
+unknown-when-false u id e f k = omega (arith, leb-false (ref id) u (sym e ∙ f))
 
 module _ (st : Store) (index : List ℕ) where
   -- what the check says by its number
-  pub check-passes : {k u e : ℕ} → Checks st index k u e → k ≡ 0 → Allowed st index × SoundLent st index u
-  check-passes (checked-1 f) q = absurd (omega arith)
-  check-passes (checked-2 a f) q = absurd (omega arith)
-  check-passes (checked-0 a u s) q = (a, s)
+  pub passed-check-sound : {k u e : ℕ} → Checks st index k u e → k ≡ 0 → Allowed st index × SoundLent st index u
+  passed-check-sound (checked-1 f) q = absurd (omega arith)
+  passed-check-sound (checked-2 a f) q = absurd (omega arith)
+  passed-check-sound (checked-0 a u s) q = (a, s)
 
   pub checks-it : {u e : ℕ} {b : Bool} → Allowed st index → Judges st index u e b → b ≡ true → Checks st index 0 u e
   checks-it {u} a (sound s q) t = rw q (checked-0 a u s)

@@ -24,29 +24,29 @@ use Rattle.table.specs.Indexed.{hashTo, mix}
 use Rattle.table.specs.Lent.{SameRun, KidsStand, Blank, Rules, SoundLent}
 use Rattle.table.specs.Checking.{below, Down, here, there, Climbs, some, tally, Judges, sound, unsound}
 
-pub clash : {b : Bool} → b ≡ false → b ≡ true → ⊥
-clash p q = let z : _≡_ {A = ℕ} 0 1 = cc in omega arith
+pub not-false-and-true : {b : Bool} → b ≡ false → b ≡ true → ⊥
+not-false-and-true p q = let z : _≡_ {A = ℕ} 0 1 = cc in omega arith
 
-pub proved : {P : Type 0} {b : Bool} → Decides P b → b ≡ true → P
-proved (holds p) e = p
-proved (fails n) e = absurd (clash refl e)
+pub decided-true : {P : Type 0} {b : Bool} → Decides P b → b ≡ true → P
+decided-true (holds p) e = p
+decided-true (fails n) e = absurd (not-false-and-true refl e)
 
-pub refuted : {P : Type 0} {b : Bool} → Decides P b → b ≡ false → P → ⊥
-refuted (holds p) e q = clash e refl
-refuted (fails n) e q = n q
+pub decided-false : {P : Type 0} {b : Bool} → Decides P b → b ≡ false → P → ⊥
+decided-false (holds p) e q = not-false-and-true e refl
+decided-false (fails n) e q = n q
 
 -- an answer handed on
 pub to : {P Q : Type 0} {b : Bool} → Decides P b → (P → Q) → (Q → P) → Decides Q b
 to (holds p) f g = holds (f p)
 to (fails n) f g = fails (λ q. n (g q))
 
-pub last : (j i : ℕ) → j < i + 1 → (j ≡ i) ⊎ (j < i)
-last j i h = eq-or-lt-of-le (omega arith)
+pub eq-or-lt : (j i : ℕ) → j < i + 1 → (j ≡ i) ⊎ (j < i)
+eq-or-lt j i h = eq-or-lt-of-le (omega arith)
 
-pub split : (a b : ℕ) → (a < b) ⊎ (b ≤ a)
-split a zero = inr (omega arith)
-split zero (suc b) = inl (omega arith)
-split (suc a) (suc b) = ⊎-elim (λ h. inl (omega arith)) (λ h. inr (omega arith)) (split a b)
+pub lt-or-le : (a b : ℕ) → (a < b) ⊎ (b ≤ a)
+lt-or-le a zero = inr (omega arith)
+lt-or-le zero (suc b) = inl (omega arith)
+lt-or-le (suc a) (suc b) = ⊎-elim (λ h. inl (omega arith)) (λ h. inr (omega arith)) (lt-or-le a b)
 
 pub past : {X : Type 0} (xs : List X) (d : X) (j : ℕ) → length xs ≤ j → getD xs j d ≡ d
 past [] d j h = refl
@@ -62,20 +62,20 @@ zero-fits = record { sfits = omega arith }
 
 on : (b : Bool) {X : Type 0} (x y : X) → b ≡ true → cond b x y ≡ x
 on true x y e = refl
-on false x y e = absurd (clash refl e)
+on false x y e = absurd (not-false-and-true refl e)
 
 off : (b : Bool) {X : Type 0} (x y : X) → b ≡ false → cond b x y ≡ y
 off false x y e = refl
-off true x y e = absurd (clash e refl)
+off true x y e = absurd (not-false-and-true e refl)
 
 -- below the lowest cut, above the highest, and between
 low : (z : ℤ) → ltZ z (negsuc 4294967295) ≡ true → cutPosition z ≡ 0
-low (pos n) e = absurd (clash refl e)
+low (pos n) e = absurd (not-false-and-true refl e)
 low (negsuc n) e = omega (arith, ltb-true 4294967295 n e)
 
 high : (z : ℤ) → ltZ (pos 4294967295) z ≡ true → cutPosition z ≡ 0
 high (pos n) e = off (ltb n 4294967296) (n + 4294967297) 0 (le-ltb n 4294967296 (omega (arith, ltb-true 4294967295 n e)))
-high (negsuc n) e = absurd (clash refl e)
+high (negsuc n) e = absurd (not-false-and-true refl e)
 
 pub record Mid (z : ℤ) : Type 0 where
   pub sum : z +ℤ pos 4294967297 ≡ pos (cutPosition z)
@@ -117,8 +117,8 @@ module _ (z : ℤ) (f : SFits w64 z) where
     pub cut-position-sum : toZ w64 (ofZ w64 (toZ w64 (ofZ w64 z) +ℤ pos 4294967297)) ≡ pos (cutPosition z)
     cut-position-sum = ap (λ (s : ℤ). toZ w64 (ofZ w64 s)) sum ∙ toZ-ofZ w64 (pos (cutPosition z)) fits
 
-pub at : (xs : List ℕ) (a b : ℕ) → a ≡ b → getD xs a 0 ≡ getD xs b 0
-at xs a b e = ap (λ (i : ℕ). getD xs i 0) e
+pub getD-at-equal : (xs : List ℕ) (a b : ℕ) → a ≡ b → getD xs a 0 ≡ getD xs b 0
+getD-at-equal xs a b e = ap (λ (i : ℕ). getD xs i 0) e
 
 pub above : {a b a' b' : ℕ} → a' ≡ a → b' ≡ b → b' ≤ a' → a < b → ⊥
 above p q h l = omega arith
@@ -149,8 +149,8 @@ product-fits h r a b = let x : h * r ≤ 4294967296 * 4096 = mul-le-mul (let y :
 pub scaled-lt : (h r : ℕ) → h < 4294967296 → 0 < r → h * r / 4294967296 < r
 scaled-lt h r a b = let x : h * r < 4294967296 * r = mul-lt-mul-of-pos-right a b in omega arith
 
-pub mixed : {h c k h' c' k' : ℕ} → h ≡ h' → c ≡ c' → k ≡ k' → mix h c k ≡ mix h' c' k'
-mixed p q r = λ i. mix (p i) (q i) (r i)
+pub mix-at-equal : {h c k h' c' k' : ℕ} → h ≡ h' → c ≡ c' → k ≡ k' → mix h c k ≡ mix h' c' k'
+mix-at-equal p q r = λ i. mix (p i) (q i) (r i)
 
 pub start-next : (nodes : List ℕ) (n : ℕ) → start nodes (n + 1) ≡ start nodes n + countAt nodes n
 unfolding start
@@ -195,19 +195,19 @@ module _ {index : List ℕ} {r : ℕ} where
   down-same {x} e = subst (λ (y : ℕ). Down index r x y) e here
 
 -- The same fact at equal numbers.
-pub same-at : {children : List ℕ} {cuts : List ℤ} {a b n a' b' n' : ℕ} → a ≡ a' → b ≡ b' → n ≡ n' → SameRun children cuts a b n → SameRun children cuts a' b' n'
-same-at {children} {cuts} {a} {b} {n} {a'} {b'} {n'} p q r s =
+pub same-run-at-equal : {children : List ℕ} {cuts : List ℤ} {a b n a' b' n' : ℕ} → a ≡ a' → b ≡ b' → n ≡ n' → SameRun children cuts a b n → SameRun children cuts a' b' n'
+same-run-at-equal {children} {cuts} {a} {b} {n} {a'} {b'} {n'} p q r s =
     subst (λ (i : ℕ). SameRun children cuts a' b' i) r (subst (λ (i : ℕ). SameRun children cuts a' i n) q (subst (λ (i : ℕ). SameRun children cuts i b n) p s))
 
-pub kids-at : {nodes children : List ℕ} {m v e n v' e' n' : ℕ} → v ≡ v' → e ≡ e' → n ≡ n' → KidsStand nodes children m v e n → KidsStand nodes children m v' e' n'
-kids-at {nodes} {children} {m} {v} {e} {n} {v'} {e'} {n'} p q r s =
+pub kids-stand-at-equal : {nodes children : List ℕ} {m v e n v' e' n' : ℕ} → v ≡ v' → e ≡ e' → n ≡ n' → KidsStand nodes children m v e n → KidsStand nodes children m v' e' n'
+kids-stand-at-equal {nodes} {children} {m} {v} {e} {n} {v'} {e'} {n'} p q r s =
     subst (λ (i : ℕ). KidsStand nodes children m v' e' i) r (subst (λ (i : ℕ). KidsStand nodes children m v' i n) q (subst (λ (i : ℕ). KidsStand nodes children m i e n) p s))
 
-pub rising-at : {cuts : List ℤ} {e n e' n' : ℕ} → e ≡ e' → n ≡ n' → Climbs cuts e n → Climbs cuts e' n'
-rising-at {cuts} {e} {n} {e'} {n'} q r s = subst (λ (i : ℕ). Climbs cuts e' i) r (subst (λ (i : ℕ). Climbs cuts i n) q s)
+pub climbs-at-equal : {cuts : List ℤ} {e n e' n' : ℕ} → e ≡ e' → n ≡ n' → Climbs cuts e n → Climbs cuts e' n'
+climbs-at-equal {cuts} {e} {n} {e'} {n'} q r s = subst (λ (i : ℕ). Climbs cuts e' i) r (subst (λ (i : ℕ). Climbs cuts i n) q s)
 
-pub blank-at : {cuts : List ℤ} {e e' : ℕ} → e ≡ e' → Blank cuts e → Blank cuts e'
-blank-at {cuts} q s = subst (λ (i : ℕ). Blank cuts i) q s
+pub blank-at-equal : {cuts : List ℤ} {e e' : ℕ} → e ≡ e' → Blank cuts e → Blank cuts e'
+blank-at-equal {cuts} q s = subst (λ (i : ℕ). Blank cuts i) q s
 
 module _ {index : List ℕ} {r : ℕ} where
   -- a walk from a bucket's word, which was read at a number that is the bucket
@@ -256,12 +256,12 @@ yes-zero {P} {r} d p = go (eqb r 0) refl d
 
 -- Places.
 place-low : (z : ℤ) → ltZ z (negsuc 4294967296) ≡ true → Place z → ⊥
-place-low (pos n) e p = clash refl e
+place-low (pos n) e p = not-false-and-true refl e
 place-low (negsuc n) e p = omega (arith, ltb-true 4294967296 n e, leb→le n (2 ^ 32) (p .0 .le))
 
 place-high : (z : ℤ) → ltZ (pos 4294967295) z ≡ true → Place z → ⊥
 place-high (pos n) e p = omega (arith, ltb-true 4294967295 n e, leb→le n (2 ^ 32 - 1) (p .1 .le))
-place-high (negsuc n) e p = clash refl e
+place-high (negsuc n) e p = not-false-and-true refl e
 
 place-mid : (z : ℤ) → ltZ z (negsuc 4294967296) ≡ false → ltZ (pos 4294967295) z ≡ false → Place z
 place-mid (pos n) l h = (leZ-yes tt, record { le = le→leb n (2 ^ 32 - 1) (ltb-false 4294967295 n h) })
@@ -279,7 +279,7 @@ module _ (z : ℤ) (f : SFits w64 z) where
 
 -- what a check that answers no has found
 pub judged-no : {st : Store} {index : List ℕ} {u e : ℕ} {b : Bool} → Judges st index u e b → b ≡ false → (u : ℕ) → SoundLent st index u → ⊥
-judged-no (sound s q) e = absurd (clash e refl)
+judged-no (sound s q) e = absurd (not-false-and-true e refl)
 judged-no (unsound x) e = x
 
 -- words gathered by `or` are zero when each is

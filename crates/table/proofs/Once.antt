@@ -5,7 +5,7 @@ use Prim.Native.Nat.{ℕ, _+_, _*_, _<_}
 use native.Mathlib.Omega.{arith}
 use lib.IntN.{ℤ}
 use Rattle.table.specs.Lent.{SoundRecords, SoundLent}
-use Rattle.table.proofs.Chain.{Order, less, equal, more, order}
+use Rattle.table.proofs.Chain.{Order, less, equal, more, lt-eq-or-gt}
 use Rattle.table.specs.Layout.{Store}
 
 module _ (st : Store) where
@@ -13,7 +13,7 @@ module _ (st : Store) where
   shorter u v l s t = omega (arith, t .rules u l .many, s .no-node (u * 4 + 1) (omega arith))
 
   pub records-once : (u v : ℕ) → SoundRecords st u → SoundRecords st v → u ≡ v
-  records-once u v s t = go (order u v)
+  records-once u v s t = go (lt-eq-or-gt u v)
     where
       go : Order u v → u ≡ v
       go (less l) = absurd (shorter u v l s t)

@@ -10,7 +10,7 @@ use Rattle.table.specs.Indexed.{LastIn}
 use Rattle.table.specs.Checking.{Down, here, there, Tallied}
 use Rattle.table.proofs.Laws as laws
 use Rattle.table.proofs.Laws.{down-le}
-use Rattle.table.proofs.Chain.{Order, less, equal, more, order, Points, reach}
+use Rattle.table.proofs.Chain.{Order, less, equal, more, lt-eq-or-gt, Points, reach}
 use Rattle.table.proofs.Tally.{hits, hit-one, injective, full}
 
 module _ (index : List ℕ) (r : ℕ) where
@@ -71,10 +71,10 @@ module _ (index : List ℕ) (r : ℕ) where
   -- the determined index has as many used words as nodes
   module _ (u : ℕ) (B : ℕ → ℕ) (small-b : (n : ℕ) → n < u → B n < r) (heads : (b : ℕ) → b < r → LastIn B b u (getD index b 0)) (nexts : (n : ℕ) → n < u → LastIn B (B n) n (getD index (r + n) 0)) where
     low : (p : ℕ) → p < r + u → F p ≤ u
-    low p l = ⊎-elim (λ h. heads p h .before) (λ g. next (p - r) (let e : p ≡ r + (p - r) = omega arith in e) (omega arith)) (laws.split p r)
+    low p l = ⊎-elim (λ h. heads p h .before) (λ g. next (p - r) (let e : p ≡ r + (p - r) = omega arith in e) (omega arith)) (laws.lt-or-le p r)
       where
         next : (n : ℕ) → p ≡ r + n → n < u → F p ≤ u
-        next n e h = omega (arith, laws.at index p (r + n) e, nexts n h .before)
+        next n e h = omega (arith, laws.getD-at-equal index p (r + n) e, nexts n h .before)
 
     walked : (n : ℕ) → n < u → Down index r (getD index (B n) 0) (suc n)
     walked n l = reach B index r u u u (omega arith) (omega arith) nexts (B n) (getD index (B n) 0) (heads (B n) (small-b n l)) n l refl
@@ -87,10 +87,10 @@ module _ (index : List ℕ) (r : ℕ) where
     next-next m k n x y d e = nexts n y .none k (omega (arith, nexts k (let z : k < u = omega arith in z) .before)) x (sym (nexts k (let z : k < u = omega arith in z) .own m d) ∙ nexts n y .own m e)
 
     once : (m p q : ℕ) → m < u → p < r + u → q < r + u → F p ≡ suc m → F q ≡ suc m → p ≡ q
-    once m p q l a b d e = go (laws.split p r) (laws.split q r)
+    once m p q l a b d e = go (laws.lt-or-le p r) (laws.lt-or-le q r)
       where
         at-next : (p : ℕ) → r ≤ p → F p ≡ suc m → getD index (r + (p - r)) 0 ≡ suc m
-        at-next p h e = laws.at index (r + (p - r)) p (omega arith) ∙ e
+        at-next p h e = laws.getD-at-equal index (r + (p - r)) p (omega arith) ∙ e
 
         nexts-same : r ≤ p → r ≤ q → Order (p - r) (q - r) → p ≡ q
         nexts-same x y (equal z) = omega arith
@@ -101,7 +101,7 @@ module _ (index : List ℕ) (r : ℕ) where
         go (inl x) (inl y) = sym (heads p x .own m d) ∙ heads q y .own m e
         go (inl x) (inr y) = absurd (head-next m p (q - r) x (omega arith) d (at-next q y e))
         go (inr x) (inl y) = absurd (head-next m q (p - r) y (omega arith) e (at-next p x d))
-        go (inr x) (inr y) = nexts-same x y (order (p - r) (q - r))
+        go (inr x) (inr y) = nexts-same x y (lt-eq-or-gt (p - r) (q - r))
 
     pub tallied : Tallied index (r + u) u
     tallied = record { small = low; full = full F (r + u) u low (λ m l. hit u m (B m) refl (omega (arith, small-b m l)) (low (B m) (omega (arith, small-b m l))) (walked m l)) once }

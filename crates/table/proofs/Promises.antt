@@ -13,12 +13,12 @@ use Rattle.table.specs.Lent.{Rules, SoundLent}
 use Rattle.table.specs.Held.{held}
 use Rattle.table.specs.Told.{done, Freshens, freshened-1, freshened-0}
 use Rattle.table.proofs.Scan.{table-length}
-use Rattle.table.proofs.Bridge.{table-at, ordered}
+use Rattle.table.proofs.Bridge.{at-held, sound-held}
 use Rattle.table.proofs.Determined.{count-node, determined}
 
 -- A sound lent table holds a sound table of the mathematics: every theorem about those is one about the words.
 pub holds-a-sound-table : (st : Store) (index : List ℕ) (u : ℕ) → SoundLent st index u → Sound (held st u)
-holds-a-sound-table st index u s = ordered st index u s
+holds-a-sound-table st index u s = sound-held st index u s
 
 -- The counts that the check tells are those of the table that is held,
 edges-held : (st : Store) (n : ℕ) → ((m : ℕ) → m < n → Rules st m) → edgeTotal (held st n) ≡ start (st .nodes) n
@@ -48,7 +48,7 @@ fits-its-room st index u s = record {
 
     narrow : (r : ℕ) → 0 < r → r ≤ length (held st u) → width (held st u) r ≤ mostEdges
     narrow zero h l = absurd (omega arith)
-    narrow (suc i) h l = let k : i < u = omega (arith, q) in let a = ap (λ nd. count (nd .edges)) (table-at st u i k) in
+    narrow (suc i) h l = let k : i < u = omega (arith, q) in let a = ap (λ nd. count (nd .edges)) (at-held st u i k) in
         omega (arith, a, count-node st i (s .records .rules i k), s .records .rules i k .most)
 
 -- Two sound tables with equal rooms that hold the same nodes are equal in every word.

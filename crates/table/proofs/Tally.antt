@@ -11,7 +11,7 @@ use borrow.Author.Tests.{eq-eqb, ne-eqb}
 use lib.Dec.{eqb}
 use Rattle.table.specs.Checking.{some, tally}
 use Rattle.table.proofs.Laws as laws
-use Rattle.table.proofs.Chain.{Order, less, equal, more, order}
+use Rattle.table.proofs.Chain.{Order, less, equal, more, lt-eq-or-gt}
 
 unfoldable pub is : ℕ → ℕ → ℕ
 is a b = cond (eqb a b) 1 0
@@ -76,12 +76,12 @@ module _ (F : ℕ → ℕ) where
   pub hit-one : (v n p : ℕ) → p < n → F p ≡ v → 1 ≤ hits v n
   unfolding hits
   hit-one v zero p l e = absurd (omega arith)
-  hit-one v (suc n) p l e = ⊎-elim (λ q. let a = is-yes (F n) v (ap F (sym q) ∙ e) in omega arith) (λ k. omega (arith, hit-one v n p k e)) (laws.last p n (let m : p < n + 1 = omega arith in m))
+  hit-one v (suc n) p l e = ⊎-elim (λ q. let a = is-yes (F n) v (ap F (sym q) ∙ e) in omega arith) (λ k. omega (arith, hit-one v n p k e)) (laws.eq-or-lt p n (let m : p < n + 1 = omega arith in m))
 
   hit-two : (v n p q : ℕ) → p < q → q < n → F p ≡ v → F q ≡ v → 2 ≤ hits v n
   unfolding hits
   hit-two v zero p q k l d e = absurd (omega arith)
-  hit-two v (suc n) p q k l d e = ⊎-elim (λ x. let a = is-yes (F n) v (ap F (sym x) ∙ e) in let b = hit-one v n p (omega arith) d in omega arith) (λ m. omega (arith, hit-two v n p q k m d e)) (laws.last q n (let m : q < n + 1 = omega arith in m))
+  hit-two v (suc n) p q k l d e = ⊎-elim (λ x. let a = is-yes (F n) v (ap F (sym x) ∙ e) in let b = hit-one v n p (omega arith) d in omega arith) (λ m. omega (arith, hit-two v n p q k m d e)) (laws.eq-or-lt q n (let m : q < n + 1 = omega arith in m))
 
   hits-none : (v n : ℕ) → ((p : ℕ) → p < n → F p ≡ v → ⊥) → hits v n ≡ 0
   unfolding hits
@@ -111,10 +111,10 @@ module _ (F : ℕ → ℕ) where
     extra : (m w : ℕ) → m < w → w ≤ u → 2 ≤ hits (suc m) n → suc w ≤ total w n
     unfolding total
     extra m zero a b h = absurd (omega arith)
-    extra m (suc w) a b h = ⊎-elim (λ e. let x = subst (λ (i : ℕ). 2 ≤ hits (suc i) n) e h in omega (arith, least w (omega arith), x)) (λ l. omega (arith, extra m w l (omega arith) h, each w (omega arith))) (laws.last m w (let z : m < w + 1 = omega arith in z))
+    extra m (suc w) a b h = ⊎-elim (λ e. let x = subst (λ (i : ℕ). 2 ≤ hits (suc i) n) e h in omega (arith, least w (omega arith), x)) (λ l. omega (arith, extra m w l (omega arith) h, each w (omega arith))) (laws.eq-or-lt m w (let z : m < w + 1 = omega arith in z))
 
     pub injective : tally F n ≡ u → (m p q : ℕ) → m < u → p < n → q < n → F p ≡ suc m → F q ≡ suc m → p ≡ q
-    injective t m p q l a b d e = go (order p q)
+    injective t m p q l a b d e = go (lt-eq-or-gt p q)
       where
         never : 2 ≤ hits (suc m) n → ⊥
         never h = omega (arith, extra m u l (omega arith) h, total-tally u n small, t)

@@ -16,13 +16,13 @@ use Rattle.table.specs.Checking.{Judges, sound, unsound, Down, Linked, E
 use Rattle.table.proofs.Laws as laws
 use Rattle.table.proofs.Chain as chain
 use Rattle.table.proofs.Owner as owner
-use Rattle.table.proofs.Chain.{Order, less, equal, more, order}
+use Rattle.table.proofs.Chain.{Order, less, equal, more, lt-eq-or-gt}
 
 -- The same edges have the same hash, and the same nodes the same bucket.
 hash-same : (children : List ℕ) (cuts : List ℤ) (v a b n j : ℕ) → j ≤ n → SameRun children cuts a b n → hashTo children cuts v a j ≡ hashTo children cuts v b j
 unfolding hashTo
 hash-same children cuts v a b n zero l s = refl
-hash-same children cuts v a b n (suc j) l s = laws.mixed (hash-same children cuts v a b n j (omega arith) s) (s .child j (omega arith)) (ap cutPosition (s .cut j (omega arith)))
+hash-same children cuts v a b n (suc j) l s = laws.mix-at-equal (hash-same children cuts v a b n j (omega arith) s) (s .child j (omega arith)) (ap cutPosition (s .cut j (omega arith)))
 
 module _ (st : Store) where
   pub same-bucket : (m n : ℕ) → SameRecord st m n → bucketAt st m ≡ bucketAt st n
@@ -96,7 +96,7 @@ module _ (st : Store) where
       -- where the records end the table ends, whatever number of nodes it is said to have
       module _ (ends : (n ≡ room (st .nodes)) ⊎ (countAt (st .nodes) n ≡ 0)) where
         same-end : (u : ℕ) → SoundLent st index u → n ≡ u
-        same-end u s = go (order n u)
+        same-end u s = go (lt-eq-or-gt n u)
           where
             go : Order n u → n ≡ u
             go (equal q) = q
@@ -109,4 +109,4 @@ module _ (st : Store) where
 
       -- a used record that does not extend
       pub refused : (countAt (st .nodes) n ≡ 0 → ⊥) → (ExtendsAt st index n → ⊥) → (u : ℕ) → SoundLent st index u → ⊥
-      refused some bad u s = ⊎-elim (λ l. bad (sound-extends u n s l)) (λ g. some (s .records .no-node (n * 4 + 1) (omega arith))) (laws.split n u)
+      refused some bad u s = ⊎-elim (λ l. bad (sound-extends u n s l)) (λ g. some (s .records .no-node (n * 4 + 1) (omega arith))) (laws.lt-or-le n u)

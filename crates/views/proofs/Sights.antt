@@ -13,7 +13,7 @@ use lib.ListN.{length}
 use lib.IntN.{ℤ}
 use Rattle.ids.specs.Id.{sign, ref, under}
 use Rattle.ids.specs.Index.{KnownTo}
-use Rattle.diagram.specs.Pieces.{last, cut, count, Each, Rising, run}
+use Rattle.diagram.specs.Pieces.{last, cut, count, first, Each, Rising, run}
 use Rattle.diagram.specs.Table.{variables, firstBoolean, topOf, Node, Table, at}
 use Rattle.diagram.specs.Cofactor.{map, edgesOf}
 use Rattle.diagram.specs.Sound.{Child}
@@ -23,14 +23,14 @@ use Rattle.diagram.proofs.Runs.{count-most}
 use Rattle.diagram.proofs.Lookup.{at-end}
 use Rattle.diagram.proofs.Facts.{var-most}
 use Rattle.diagram.proofs.Readings.{bool-top}
-use Rattle.diagram.proofs.Cofactors.{edge-own, edge-other, edges-of, edges-rising}
+use Rattle.diagram.proofs.Cofactors.{edge-own, edge-other, edges-are-kids, edges-rising}
 use Rattle.table.specs.Layout.{varAt, countAt, firstAt, kidAt, cutAt, cutPosition, start, Store}
 use Rattle.table.specs.Lent.{Rules, SoundLent}
 use Rattle.table.specs.Held.{edgesFrom, nodeAt, held}
 use Rattle.table.specs.Told.{Allowed}
 use Rattle.table.proofs.Laws as laws
 use Rattle.table.proofs.Scan.{table-length}
-use Rattle.table.proofs.Bridge.{edges-run, range-edges, bool-edges, table-at, ordered}
+use Rattle.table.proofs.Bridge.{edges-run, range-edges, bool-edges, at-held, sound-held}
 use Rattle.table.proofs.Promises.{edges-fit}
 use Rattle.views.specs.Seeing.{Readable, Asked, childSeen, cutSeen, seen, Inside, Sees, Views}
 use Rattle.views.specs.declared.View.{View}
@@ -155,12 +155,12 @@ module _ (st : Store) where
       ∙ ((λ i. cut (p i) 1 (last (q i))) ∙ ap (map (under s)) (sym (bool-edges (st .children) (st .cuts) (varAt (st .nodes) n) (firstAt (st .nodes) n) (countAt (st .nodes) n) h)))
 
   view-record : (n : ℕ) (w : View) → Rules st n → w .first ≡ firstAt (st .nodes) n → w .count ≡ countAt (st .nodes) n → seen (st .children) (st .cuts) (varAt (st .nodes) n) w 0 ≡ map (under (sign (w .id .0))) (nodeAt st n .edges)
-  view-record n w r f k = ⊎-elim (λ h. view-range n w r h f k) (λ h. view-bool n w r h f k) (laws.split (varAt (st .nodes) n) 32)
+  view-record n w r f k = ⊎-elim (λ h. view-range n w r h f k) (λ h. view-bool n w r h f k) (laws.lt-or-le (varAt (st .nodes) n) 32)
 
 module _ (st : Store) (u id : ℕ) (r : Readable st u) (a : 2 ≤ id) (b : KnownTo u id) where
   -- the node of an id that is no terminal
   pub node-at : at (held st u) (ref id) ≡ nodeAt st (id / 2 - 1)
-  node-at = let e : id / 2 ≡ suc (id / 2 - 1) = omega arith in ap (at (held st u)) e ∙ table-at st u (id / 2 - 1) (omega arith)
+  node-at = let e : id / 2 ≡ suc (id / 2 - 1) = omega arith in ap (at (held st u)) e ∙ at-held st u (id / 2 - 1) (omega arith)
 
   pub node-var : (at (held st u) (ref id)) .var ≡ varAt (st .nodes) (id / 2 - 1)
   node-var = ap (λ (x : Node). x .var) node-at
@@ -192,12 +192,12 @@ module _ (st : Store) (u v id : ℕ) (w : View) (r : Readable st u) (hv : v < va
   views-rising = subst (Rising 0 (topOf v)) (sym (x .edges)) (edges-rising (held st u) (r .sound) v id hv k)
 
   pub views-kids : Each (Child (held st u) (suc v)) (seen (st .children) (st .cuts) v w 0)
-  views-kids = subst (Each (Child (held st u) (suc v))) (sym (x .edges)) (edges-of (held st u) (r .sound) v id hv k .kids)
+  views-kids = subst (Each (Child (held st u) (suc v))) (sym (x .edges)) (edges-are-kids (held st u) (r .sound) v id hv k .kids)
 
   -- an id has at most two edges at a boolean variable
-  pub count-bool : firstBoolean ≤ v → w .count ≤ 2
-  count-bool h =
-      let m = count-most 0 (topOf v) (edgesOf (held st u) v id) (edges-of (held st u) (r .sound) v id hv k .reduced) in
+  pub bool-count-le-two : firstBoolean ≤ v → w .count ≤ 2
+  bool-count-le-two h =
+      let m = count-most 0 (topOf v) (edgesOf (held st u) v id) (edges-are-kids (held st u) (r .sound) v id hv k .reduced) in
       omega (arith, bool-top v h, m, ap count (x .edges), seen-count (st .children) (st .cuts) v w (x .inside .some))
 
 -- the view lies within the words
@@ -212,12 +212,12 @@ pub known-used : (st : Store) (u id : ℕ) → KnownTo (length (held st u)) id �
 known-used st u id h = let l = table-length st u in omega arith
 
 -- a sound lent table can be read
-pub readable : (st : Store) (index : List ℕ) (u : ℕ) → Allowed st index → SoundLent st index u → Readable st u
-readable st index u a s = record { fits = omega (arith, s .records .fits); cut-each = a .cut-each; small = omega (arith, s .records .fits, a .most-nodes); rules = s .records .rules; sound = ordered st index u s }
+pub sound-readable : (st : Store) (index : List ℕ) (u : ℕ) → Allowed st index → SoundLent st index u → Readable st u
+sound-readable st index u a s = record { fits = omega (arith, s .records .fits); cut-each = a .cut-each; small = omega (arith, s .records .fits, a .most-nodes); rules = s .records .rules; sound = sound-held st index u s }
 
 -- with more levels than there are variables, every known id may be asked about
-pub asked-all : {t : Table} {u id : ℕ} → KnownTo u id → Asked t u (variables + 1) id
-asked-all k = record { known = k; ahead = omega arith }
+pub asked-of-all-known : {t : Table} {u id : ℕ} → KnownTo u id → Asked t u (variables + 1) id
+asked-of-all-known k = record { known = k; ahead = omega arith }
 
 -- and of an id that may be asked about, a call is left: no variable is later than a terminal's
 pub call-left : {st : Store} {u n : ℕ} → Readable st u → (x : ℕ) → Asked (held st u) u n x → 1 ≤ n
@@ -225,6 +225,10 @@ call-left {st} {u} r x q = omega (arith, var-most (held st u) (r .sound) (ref x)
 
 pub one-more : {n : ℕ} → 1 ≤ n → (n ≡ 1 → ⊥) → 1 < n
 one-more h q = omega (arith, q)
+
+-- The first of the edges from edge j on.
+pub first-seen : (children : List ℕ) (cuts : List ℤ) (v : ℕ) (w : View) (j : ℕ) → j < w .count → first (seen children cuts v w j) ≡ childSeen children w j
+first-seen children cuts v w j h = ⊎-elim (λ m. ap first (seen-cut children cuts v w j m)) (λ m. ap first (seen-last children cuts v w j (omega arith))) (laws.lt-or-le (j + 1) (w .count))
 
 -- A terminal is later than each variable.
 end-later : (t : Table) (v id : ℕ) → id < 2 → v < variables → v < (at t (ref id)) .var
@@ -244,7 +248,7 @@ module _ {st : Store} {u : ℕ} (r : Readable st u) (id : ℕ) (b : KnownTo u id
     variable-known = omega (arith, e, node-rules st u id r a b .known)
 
   pub sees-views : {v : ℕ} {w : View} → v < variables → Sees (st .nodes) v id w → Views st u v id w
-  sees-views {v} {w} hv s = ⊎-elim end (λ a. node a (ℕ-discrete (varAt (st .nodes) (ref id - 1)) v)) (laws.split id 2)
+  sees-views {v} {w} hv s = ⊎-elim end (λ a. node a (ℕ-discrete (varAt (st .nodes) (ref id - 1)) v)) (laws.lt-or-le id 2)
     where
       end : id < 2 → Views st u v id w
       end l =
@@ -259,9 +263,9 @@ module _ {st : Store} {u : ℕ} (r : Readable st u) (id : ℕ) (b : KnownTo u id
       node a (no n) = views-other st u id r a b v w n (s .same-id) (s .other (λ _ e. n e))
 
 -- The earlier of two variables.
-pub first-is : {st : Store} {u : ℕ} → Readable st u → (x y : ℕ) {v : ℕ} → 2 ≤ x → KnownTo u x → 2 ≤ y → KnownTo u y → v ≡ min (varAt (st .nodes) (ref x - 1)) (varAt (st .nodes) (ref y - 1))
+pub first-variable-is : {st : Store} {u : ℕ} → Readable st u → (x y : ℕ) {v : ℕ} → 2 ≤ x → KnownTo u x → 2 ≤ y → KnownTo u y → v ≡ min (varAt (st .nodes) (ref x - 1)) (varAt (st .nodes) (ref y - 1))
     → (v ≡ min ((at (held st u) (ref x)) .var) ((at (held st u) (ref y)) .var)) × (v < variables)
-first-is {st} {u} r x y a k b l e =
+first-variable-is {st} {u} r x y a k b l e =
     let p : varAt (st .nodes) (ref x - 1) ≡ (at (held st u) (ref x)) .var = variable-is r x k a refl in
     let q : varAt (st .nodes) (ref y - 1) ≡ (at (held st u) (ref y)) .var = variable-is r y l b refl in
     let p′ : varAt (st .nodes) (ref x - 1) < variables = variable-known r x k a refl in

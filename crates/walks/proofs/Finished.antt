@@ -8,15 +8,15 @@ use lib.IntN.{ℤ}
 use Rattle.ids.specs.declared.NodeId.{NodeId}
 use Rattle.diagram.specs.Table.{Table}
 use Rattle.table.specs.Layout.{room, Store}
-use Rattle.table.proofs.Laws.{clash}
+use Rattle.table.proofs.Laws.{not-false-and-true}
 use Rattle.making.specs.declared.nodes.Used.{Used}
 use Rattle.making.specs.declared.nodes.Made.{Made}
 use Rattle.making.specs.Outcome.{Lent, Outcome, Creates, tableOf}
-use Rattle.making.proofs.Taken.{untouched, taken-outcome}
+use Rattle.making.proofs.Taken.{taken-back-untouched, outcome-when-taken-back}
 use Rattle.walks.specs.Recalling.{Memo}
 use Rattle.walks.specs.Walking.{Note, Ready, Stepped, Finishes, Worked}
 use Rattle.walks.proofs.Recalled.{memo-zeroed}
-use Rattle.walks.proofs.Composing.{nothing-made}
+use Rattle.walks.proofs.Composing.{outcome-adds-nothing}
 
 -- A memo of zeros is true of any table.
 pub ready-zeroed : {P : Note} {h : Used} {st : Store} {index memo : List ℕ} → Lent h st index → length memo ≡ room (st .nodes) * 3 → memo ≡ replicate (length memo) 0 → Ready P h st index memo
@@ -25,25 +25,25 @@ ready-zeroed {P} {h} {st} {memo = memo} l long e = record { lent = l; long = lon
 module _ {P : Note} {h : Used} {st : Store} {index memo : List ℕ} (l : Lent h st index) {want : Table × ℕ} {m : Made} {st₁ : Store} {index₁ memo₁ : List ℕ} (c : Stepped P h want m st memo st₁ index₁ memo₁)
     {o : Made} {st′ : Store} {index′ : List ℕ} (e : Finishes (h .nodes) m st₁ index₁ o st′ index′) where
   -- A whole operation: a walk, and its end.
-  pub worked : Worked h want o st index memo st′ index′ memo₁
-  worked = record { creates = go (m .ok) refl; long = c .long }
+  pub worked-when-finished : Worked h want o st index memo st′ index′ memo₁
+  worked-when-finished = record { creates = go (m .ok) refl; long = c .long }
     where
       go : (b : Bool) → m .ok ≡ b → Creates h want o st index st′ index′
       go true good =
           let k = e .kept good in
-          record { outcome = rw (k .0, k .1 .same, k .1 .index-same) (c .outcome); untouched = λ q. absurd (clash q (ap (λ (x : Made). x .ok) (k .0) ∙ good)) }
+          record { outcome = rw (k .0, k .1 .same, k .1 .index-same) (c .outcome); untouched = λ q. absurd (not-false-and-true q (ap (λ (x : Made). x .ok) (k .0) ∙ good)) }
       go false bad =
           let k = e .taken bad in
-          record { outcome = subst (λ (b : Bool). Outcome h want (record { ok = b; id = o .id; used = o .used }) st st′ index′) (sym (k .0)) (taken-outcome l (c .outcome .stays) (k .1) (o .id) (c .outcome .full bad)); untouched = λ q. untouched l (c .outcome .stays) (k .1) }
+          record { outcome = subst (λ (b : Bool). Outcome h want (record { ok = b; id = o .id; used = o .used }) st st′ index′) (sym (k .0)) (outcome-when-taken-back l (c .outcome .stays) (k .1) (o .id) (c .outcome .full bad)); untouched = λ q. taken-back-untouched l (c .outcome .stays) (k .1) }
 
   -- Beside an answer the memo is true of the table.
-  pub still-recalled : o .ok ≡ true → Memo (P (tableOf (o .used) st′)) memo₁
-  still-recalled good = go (m .ok) refl
+  pub recalled-when-finished : o .ok ≡ true → Memo (P (tableOf (o .used) st′)) memo₁
+  recalled-when-finished good = go (m .ok) refl
     where
       go : (b : Bool) → m .ok ≡ b → Memo (P (tableOf (o .used) st′)) memo₁
       go true q = rw (e .kept q .0, e .kept q .1 .same) (c .recalled)
-      go false q = absurd (clash (e .taken q .0) good)
+      go false q = absurd (not-false-and-true (e .taken q .0) good)
 
 -- An operation that answers without a node leaves the table and the memo as they were.
-pub worked-still : {h : Used} {st : Store} {index memo : List ℕ} → Lent h st index → {want : Table × ℕ} (id : NodeId) → want ≡ (tableOf h st, id .0) → Worked h want (record { ok = true; id = id; used = h }) st index memo st index memo
-worked-still l id e = record { creates = record { outcome = nothing-made l id e; untouched = λ q. absurd (clash q refl) }; long = refl }
+pub worked-adds-nothing : {h : Used} {st : Store} {index memo : List ℕ} → Lent h st index → {want : Table × ℕ} (id : NodeId) → want ≡ (tableOf h st, id .0) → Worked h want (record { ok = true; id = id; used = h }) st index memo st index memo
+worked-adds-nothing l id e = record { creates = record { outcome = outcome-adds-nothing l id e; untouched = λ q. absurd (not-false-and-true q refl) }; long = refl }

@@ -28,8 +28,8 @@ module _ (children : List ℕ) (cuts : List ℤ) (v : ℕ) (g : firstBoolean ≤
   two-edges : 1 < w .count → w .count ≡ 2
   two-edges l = ⊎-elim (λ e. sym e) (λ k. absurd (omega (arith, rising-next children cuts v w _ _ 1 (rising-cut children cuts v w _ rise 0 l .2) k .0, cutSeen-bool cuts v w 0 g, cutSeen-bool cuts v w 1 g))) (eq-or-lt-of-le l)
 
-  pub halves : joined.Sides (seen children cuts v w 0) (childSeen children w 0) (childSeen children w (w .count - 1))
-  halves = ⊎-elim
+  pub sides-of-seen : joined.Sides (seen children cuts v w 0) (childSeen children w 0) (childSeen children w (w .count - 1))
+  sides-of-seen = ⊎-elim
       (λ e. subst (λ (x : Pieces ℕ). joined.Sides x (childSeen children w 0) (childSeen children w (w .count - 1))) (sym (seen-one children cuts v w (sym e)))
       (let a : 0 ≡ w .count - 1 = omega (arith, e) in subst (λ (j : ℕ). joined.Sides (last (childSeen children w 0)) (childSeen children w 0) (childSeen children w j)) a joined.one))
       (λ l. subst (λ (x : Pieces ℕ). joined.Sides x (childSeen children w 0) (childSeen children w (w .count - 1))) (sym (seen-two children cuts v w g (two-edges l)))
@@ -52,7 +52,7 @@ module _ {v n : ℕ} (W : Walk v n) {t : Table} (z : Sound t) {e : ℕ} {childre
   step = W .f
 
   over : overlay (seen children cuts v a 0) (seen children cuts v b 0) ≡ cut (pairAt false) 1 (last (pairAt true))
-  over = joined.sides-overlay (halves children cuts v g a (s .left .some) (s .left-rises)) (halves children cuts v g b (s .right .some) (s .right-rises))
+  over = joined.overlay-sides (sides-of-seen children cuts v g a (s .left .some) (s .left-rises)) (sides-of-seen children cuts v g b (s .right .some) (s .right-rises))
       (omega (arith, s .tested, seen-count children cuts v a (s .left .some), seen-count children cuts v b (s .right .some)))
 
   pub pair-kids : (low : Bool) → Child t (suc v) ((pairAt low) .0) × Child t (suc v) ((pairAt low) .1)

@@ -21,34 +21,35 @@ use Rattle.algebra.specs.Overlay.{overlay, merge}
 use Rattle.algebra.specs.Making.{settle}
 use Rattle.algebra.specs.Conjunction.{walk, walkIn, create-over}
 use Rattle.algebra.proofs.Overlays.{rising-overlay, each-overlay, reduced-merge, each-merge}
-use Rattle.algebra.proofs.Walking.{Walked, walked}
+use Rattle.algebra.proofs.Walking.{Walked, walk-makes-each}
 use Rattle.table.specs.Layout.{room, Store}
-use Rattle.table.proofs.Laws.{split, clash}
+use Rattle.table.proofs.Laws.{lt-or-le, not-false-and-true}
 use Rattle.merging.proofs.Gluing.{Slot, next, again, Put}
-use Rattle.merging.proofs.Stepping.{Going, going-none, going-less, going-same, going-more, going-last-cut, going-cut-last, going-last, going-over}
-use Rattle.merging.proofs.Fitting.{full-wide, full-child}
+use Rattle.merging.proofs.Stepping.{Going, going-none, going-less, going-same, going-more, going-last-cut, going-cut-last, going-ends-whole, going-below-count}
+use Rattle.merging.proofs.Fitting.{not-fits-too-wide, not-fits-child-full}
 use Rattle.views.specs.declared.View.{View}
 use Rattle.views.specs.Seeing.{Asked, Inside, beyond, childSeen, cutSeen, seen}
-use Rattle.views.proofs.Sights.{seen-last, seen-cut, rising-cut, childSeen-stays, cutSeen-stays, cutSeen-range}
+use Rattle.views.proofs.Sights.{seen-last, seen-cut, rising-cut, childSeen-stays, cutSeen-stays, cutSeen-range, first-seen}
 use Rattle.making.specs.declared.edges.Edge.{Edge}
 use Rattle.making.specs.declared.edges.Edges as built
 use Rattle.making.specs.declared.nodes.Used.{Used}
 use Rattle.making.specs.declared.nodes.Made.{Made}
 use Rattle.making.specs.Building.{none, childIn, cutIn, piecesOf}
 use Rattle.making.specs.Outcome.{Stays, Outcome, Buildable, tableOf}
-use Rattle.making.proofs.Kept.{stays-here, stays-trans, continued}
+use Rattle.making.proofs.Kept.{stays-refl, stays-trans, stays-continues}
 use Rattle.walks.specs.Walking.{Ready, Stepped, Sides, both, Advances, stopped, left, right, level}
-use Rattle.walks.proofs.Composing.{sound-of, ready-after, then-made, becomes}
+use Rattle.walks.proofs.Composing.{lent-sound, ready-after-step, stepped-then-outcome, stepped-equal-want}
 use Rattle.walks.proofs.Walk.{Walk}
 use Rattle.walks.proofs.Booleans.{asked-kid}
+use Rattle.making.proofs.Slots.{slot-for-is}
 
 -- What is known of a side's cut as the code reads it: its own, or past each position at the last edge.
 abbrev pub CutRead : List ℤ → View → ℕ → ℕ → Type 0
 CutRead cuts w j k = (j + 1 < w .count → k ≡ cutSeen cuts 0 w j) × (w .count ≤ j + 1 → k ≡ beyond) × (k ≤ beyond)
 
 -- The edges that are left on both sides, while there is more to do.
-abbrev pub still : View → View → ℕ → ℕ → Bool → ℕ
-still a b i j more = cond more (suc ((a .count - i) + (b .count - j))) 0
+abbrev pub edges-still-ahead : View → View → ℕ → ℕ → Bool → ℕ
+edges-still-ahead a b i j more = cond more (suc ((a .count - i) + (b .count - j))) 0
 
 module _ {v n : ℕ} (W : Walk v n) (h : Used) (st : Store) (memo : List ℕ) (a b : View) where
   abbrev t : Table
@@ -94,12 +95,12 @@ module _ {v n : ℕ} (W : Walk v n) (h : Used) (st : Store) (memo : List ℕ) (a
     pub loop-starts : (out : built.Edges) → length (out .list) ≡ mostEdges → (final : NodeId) → Loop h st index memo out final 0 0 0 true true
     loop-starts out size final = record {
       ready = r;
-      stays = stays-here;
+      stays = stays-refl;
       long = refl;
       size = size;
       at = λ q. record { left-in = s .left .some; right-in = s .right .some; most = omega arith; last-is = λ l. absurd (omega arith); left-kids = s .left-kids; right-kids = s .right-kids; going = going-none f t (childIn out) (cutIn out) _ _ };
-      built-all = λ q. absurd (clash q refl);
-      full = λ q. absurd (clash q refl);
+      built-all = λ q. absurd (not-false-and-true q refl);
+      full = λ q. absurd (not-false-and-true q refl);
     }
 
     module _ {now : Used} {st₁ : Store} {index₁ memo₁ : List ℕ} {out : built.Edges} {final : NodeId} {len i j : ℕ} {ok more : Bool}
@@ -119,10 +120,10 @@ module _ {v n : ℕ} (W : Walk v n) (h : Used) (st : Store) (memo : List ℕ) (a
           ey = ry ∙ childSeen-stays (st .children) (st₁ .children) (st .cuts) (st₁ .cuts) v (h .edges) b (s .right) (l .stays .child) j (here .right-in)
 
           first-kid : (w : View) (p : ℕ) → p < w .count → Each (Child t (suc v)) (seen (st .children) (st .cuts) v w p) → Child t (suc v) (childSeen (st .children) w p)
-          first-kid w p k e = ⊎-elim (λ g. subst (Each (Child t (suc v))) (seen-cut (st .children) (st .cuts) v w p g) e .0) (λ g. subst (Each (Child t (suc v))) (seen-last (st .children) (st .cuts) v w p (omega arith)) e) (split (p + 1) (w .count))
+          first-kid w p k e = ⊎-elim (λ g. subst (Each (Child t (suc v))) (seen-cut (st .children) (st .cuts) v w p g) e .0) (λ g. subst (Each (Child t (suc v))) (seen-last (st .children) (st .cuts) v w p (omega arith)) e) (lt-or-le (p + 1) (w .count))
 
           kid-now : (c : ℕ) → Child t (suc v) c → Child u (suc v) c
-          kid-now c k = continues-child (continued (r .lent) (l .stays)) (suc v) c k
+          kid-now c k = continues-child (stays-continues (r .lent) (l .stays)) (suc v) c k
 
           pub both-asked : Asked u (now .nodes) n x × Asked u (now .nodes) n y
           both-asked = (
@@ -140,7 +141,7 @@ module _ {v n : ℕ} (W : Walk v n) (h : Used) (st : Store) (memo : List ℕ) (a
             answer = f u pair
 
             c : Stepped (W .note) now answer m st₁ memo₁ st₂ index₂ memo₂
-            c = becomes d (ap₂ (λ (p q : ℕ). f u (p, q)) ex ey)
+            c = stepped-equal-want d (ap₂ (λ (p q : ℕ). f u (p, q)) ex ey)
 
             abbrev u₂ : Table
             u₂ = tableOf (m .used) st₂
@@ -155,19 +156,11 @@ module _ {v n : ℕ} (W : Walk v n) (h : Used) (st : Store) (memo : List ℕ) (a
                 (e, omega (arith, e, rising-cut (st .children) (st .cuts) v w (topOf v) rise p g .1, top-is))
 
             real : (w : View) (p z : ℕ) → CutRead (st₁ .cuts) w p z → z < beyond → p + 1 < w .count
-            real w p z rz g = ⊎-elim (λ e. e) (λ e. absurd (omega (arith, rz .1 e))) (split (p + 1) (w .count))
+            real w p z rz g = ⊎-elim (λ e. e) (λ e. absurd (omega (arith, rz .1 e))) (lt-or-le (p + 1) (w .count))
 
             -- the slot
             slot-is : m .ok ≡ true → Slot (childIn out) len (answer .1) slot₀
-            slot-is good = go (ℕ-discrete (final .0) (m .id .0)) (split 0 len)
-              where
-                same-id : m .id .0 ≡ answer .1
-                same-id = c .outcome .id good
-
-                go : Dec (final .0 ≡ m .id .0) → (0 < len) ⊎ (len ≤ 0) → Slot (childIn out) len (answer .1) slot₀
-                go (yes e) (inl g) = subst (Slot (childIn out) len (answer .1)) (sym (sf .0 g e)) (again g (sym (here .last-is g) ∙ (e ∙ same-id)))
-                go (yes e) (inr g) = subst (Slot (childIn out) len (answer .1)) (sym (sf .1 (λ p. absurd (omega arith)))) (next (λ p. absurd (omega arith)))
-                go (no e) g = subst (Slot (childIn out) len (answer .1)) (sym (sf .1 (λ p w. e w))) (next (λ p w. e (here .last-is p ∙ (w ∙ sym same-id))))
+            slot-is good = subst (λ (d : ℕ). Slot (childIn out) len d slot₀) (c .outcome .id good) (slot-for-is (childIn out) len (final .0) (m .id .0) slot₀ (here .last-is) sf)
 
             module _ (slot z : ℕ) (room-for : slot < mostEdges) where
               abbrev out₂ : built.Edges
@@ -198,7 +191,7 @@ module _ {v n : ℕ} (W : Walk v n) (h : Used) (st : Store) (memo : List ℕ) (a
               loop-next : (i₂ j₂ : ℕ) (ok₂ more₂ : Bool) → (more₂ ≡ true → At u₂ out₂ (m .id) (slot + 1) i₂ j₂) → (more₂ ≡ false → ok₂ ≡ true → Built u₂ out₂ (slot + 1))
                   → (more₂ ≡ false → ok₂ ≡ false → Fits (room (st .nodes)) (length (st .children)) (want .0) → ⊥) → Loop (m .used) st₂ index₂ memo₂ out₂ (m .id) (slot + 1) i₂ j₂ ok₂ more₂
               loop-next i₂ j₂ ok₂ more₂ p q r = record {
-                ready = ready-after (l .ready) c;
+                ready = ready-after-step (l .ready) c;
                 stays = stays-trans (l .stays) (c .outcome .stays);
                 long = c .long ∙ l .long;
                 size = simp length-set (l .size);
@@ -243,7 +236,7 @@ module _ {v n : ℕ} (W : Walk v n) (h : Used) (st : Store) (memo : List ℕ) (a
                 (subst (N (A (i + 1))) (sym (as-cut b j lj g)) (going-less f whole u (childIn out) (cutIn out) _ _ len slot₀ _ _ _ _ _ _ (moved (as-cut a i li gi) (as-cut b j lj g) (here .going)) (put slot₀ k fits good refl) (omega (arith, ka, own b (s .right) (s .right-rises) j q rq g .0)) (cut-put slot₀ k fits ∙ ka))))
                 (λ g. at-next slot₀ k fits good (i + 1) j gi lj (kids-on a i li gi (here .left-kids)) (here .right-kids)
                 (subst (N (A (i + 1))) (sym (as-last b j lj g)) (going-cut-last f whole u (childIn out) (cutIn out) _ _ len slot₀ _ _ _ _ (moved (as-cut a i li gi) (as-last b j lj g) (here .going)) (put slot₀ k fits good refl) (cut-put slot₀ k fits ∙ ka))))
-                (split (j + 1) (b .count))
+                (lt-or-le (j + 1) (b .count))
               where
                 gi : i + 1 < a .count
                 gi = real a i k rk (omega (arith, rq .2))
@@ -261,7 +254,7 @@ module _ {v n : ℕ} (W : Walk v n) (h : Used) (st : Store) (memo : List ℕ) (a
                 (subst (λ (e : Pieces ℕ). N e (B (j + 1))) (sym (as-cut a i li g)) (going-more f whole u (childIn out) (cutIn out) _ _ len slot₀ _ _ _ _ _ _ (moved (as-cut a i li g) (as-cut b j lj gj) (here .going)) (put slot₀ q fits good refl) (omega (arith, qb, own a (s .left) (s .left-rises) i k rk g .0)) (cut-put slot₀ q fits ∙ qb))))
                 (λ g. at-next slot₀ q fits good i (j + 1) li gj (here .left-kids) (kids-on b j lj gj (here .right-kids))
                 (subst (λ (e : Pieces ℕ). N e (B (j + 1))) (sym (as-last a i li g)) (going-last-cut f whole u (childIn out) (cutIn out) _ _ len slot₀ _ _ _ _ (moved (as-last a i li g) (as-cut b j lj gj) (here .going)) (put slot₀ q fits good refl) (cut-put slot₀ q fits ∙ qb))))
-                (split (i + 1) (a .count))
+                (lt-or-le (i + 1) (a .count))
               where
                 gj : j + 1 < b .count
                 gj = real b j q rq (omega (arith, rk .2))
@@ -293,29 +286,26 @@ module _ {v n : ℕ} (W : Walk v n) (h : Used) (st : Store) (memo : List ℕ) (a
             -- Both sides are at their last edges.
             step-end : (good : m .ok ≡ true) (fits : slot₀ < mostEdges) → k ≡ q → beyond ≤ k → Built u₂ (out₂ slot₀ k fits) (slot₀ + 1)
             step-end good fits e outer =
-                let x = going-last f whole u (childIn out) (cutIn out) _ _ len slot₀ _ _ (moved (as-last a i li (end a (s .left) (s .left-rises) i k rk outer)) (as-last b j lj (end b (s .right) (s .right-rises) j q rq (omega (arith, e)))) (here .going)) (put slot₀ k fits good refl) in
+                let x = going-ends-whole f whole u (childIn out) (cutIn out) _ _ len slot₀ _ _ (moved (as-last a i li (end a (s .left) (s .left-rises) i k rk outer)) (as-last b j lj (end b (s .right) (s .right-rises) j q rq (omega (arith, e)))) (here .going)) (put slot₀ k fits good refl) in
                 let w : slot₀ + 1 - 1 ≡ slot₀ = omega arith in
                 record { some = omega arith; most = omega arith; table = c .outcome .table good ∙ x .0; pieces = ap (run (childIn (out₂ slot₀ k fits)) (cutIn (out₂ slot₀ k fits)) 0) w ∙ x .1 }
               where
                 end : (w : View) → Inside (h .edges) w → Rising 0 (topOf v) (seen (st .children) (st .cuts) v w 0) → (p z : ℕ) → CutRead (st₁ .cuts) w p z → beyond ≤ z → w .count ≤ p + 1
-                end w ins rise p z rz g = ⊎-elim (λ y. absurd (omega (arith, own w ins rise p z rz y .1))) (λ y. y) (split (p + 1) (w .count))
+                end w ins rise p z rz g = ⊎-elim (λ y. absurd (omega (arith, own w ins rise p z rz y .1))) (λ y. y) (lt-or-le (p + 1) (w .count))
 
             -- There is no room for the children, or no slot.
             kids-over : Each (λ (p : ℕ × ℕ). Child t (suc v) (p .0) × Child t (suc v) (p .1)) (overlay (A i) (B j))
             kids-over = each-overlay (Child t (suc v)) (Child t (suc v)) (A i) (B j) (here .left-kids) (here .right-kids)
 
-            first-is : (w : View) (p : ℕ) → p < w .count → first (seen (st .children) (st .cuts) v w p) ≡ childSeen (st .children) w p
-            first-is w p g = ⊎-elim (λ y. ap first (as-cut w p g y)) (λ y. ap first (as-last w p g y)) (split (p + 1) (w .count))
-
             first-pair : f u (first (A i), first (B j)) ≡ answer
-            first-pair = ap₂ (λ (p q : ℕ). f u (p, q)) (first-is a i li) (first-is b j lj)
+            first-pair = ap₂ (λ (p q : ℕ). f u (p, q)) (first-seen (st .children) (st .cuts) v a i li) (first-seen (st .children) (st .cuts) v b j lj)
 
             same-want : want .0 ≡ (create-over v whole) .0
             unfolding both walkIn
             same-want = refl
 
             no-child : m .ok ≡ false → Fits (room (st .nodes)) (length (st .children)) (want .0) → ⊥
-            no-child bad y = full-child f t (suc v) (λ p. Child t (suc v) (p .0) × Child t (suc v) (p .1)) (W .m t) (W .made (s .enough) t (sound-of (r .lent))) whole u (sound-of (l .ready .lent)) (continued (r .lent) (l .stays))
+            no-child bad y = not-fits-child-full f t (suc v) (λ p. Child t (suc v) (p .0) × Child t (suc v) (p .1)) (W .m t) (W .made (s .enough) t (lent-sound (r .lent))) whole u (lent-sound (l .ready .lent)) (stays-continues (r .lent) (l .stays))
                 (childIn out) (cutIn out) len (A i) (B j) kids-over (here .going) v (room (st .nodes)) (length (st .children))
                 (λ z. c .outcome .full bad (moved-fits (subst (λ (w : Table × ℕ). Fits (room (st .nodes)) (length (st .children)) (w .0)) first-pair z))) (subst (Fits (room (st .nodes)) (length (st .children))) same-want y)
               where
@@ -323,7 +313,7 @@ module _ {v n : ℕ} (W : Walk v n) (h : Used) (st : Store) (memo : List ℕ) (a
                 moved-fits z = subst (λ (x : ℕ). Fits x (length (st₁ .children)) (answer .0)) (ap (λ (x : ℕ). x / 4) (sym (l .stays .long))) (subst (λ (x : ℕ). Fits (room (st .nodes)) x (answer .0)) (sym (l .stays .wide)) z)
 
             no-slot : m .ok ≡ true → mostEdges ≤ slot₀ → Fits (room (st .nodes)) (length (st .children)) (want .0) → ⊥
-            no-slot good over y = full-wide (whole .0) v (whole .1) (room (st .nodes)) (length (st .children)) (omega (arith, going-over f whole u (childIn out) (cutIn out) len (A i) (B j) (here .going) other, len-is)) (subst (Fits (room (st .nodes)) (length (st .children))) same-want y)
+            no-slot good over y = not-fits-too-wide (whole .0) v (whole .1) (room (st .nodes)) (length (st .children)) (omega (arith, going-below-count f whole u (childIn out) (cutIn out) len (A i) (B j) (here .going) other, len-is)) (subst (Fits (room (st .nodes)) (length (st .children))) same-want y)
               where
                 fresh : 0 < len → final .0 ≡ m .id .0 → ⊥
                 fresh g e = omega (arith, sf .0 g e, here .most)
@@ -349,39 +339,39 @@ module _ {v n : ℕ} (W : Walk v n) (h : Used) (st : Store) (memo : List ℕ) (a
             -- One turn of the loop.
             pub loop-step : {ok₂ more₂ : Bool} {slot z dl dr : ℕ} (adv : Advances (m .ok) slot₀ k q ok₂ more₂ slot z dl dr) → Loop (m .used) st₂ index₂ memo₂ (out₂ slot z (slot-inside adv)) (m .id) (slot + 1) (i + dl) (j + dr) ok₂ more₂
             unfolding slot-inside
-            loop-step (stopped x) = loop-next 0 0 (omega arith) (i + 0) (j + 0) false false (λ e. absurd (clash refl e)) (λ e o. absurd (clash refl o)) (λ e o. go (m .ok) refl)
+            loop-step (stopped x) = loop-next 0 0 (omega arith) (i + 0) (j + 0) false false (λ e. absurd (not-false-and-true refl e)) (λ e o. absurd (not-false-and-true refl o)) (λ e o. go (m .ok) refl)
               where
                 go : (good : Bool) → m .ok ≡ good → Fits (room (st .nodes)) (length (st .children)) (want .0) → ⊥
                 go true e = no-slot e (x e)
                 go false e = no-child e
-            loop-step (left good fits near) = loop-next slot₀ k fits (i + 1) (j + 0) true true (λ e. let w : j ≡ j + 0 = omega arith in subst (At u₂ (out₂ slot₀ k fits) (m .id) (slot₀ + 1) (i + 1)) w (step-left good fits near)) (λ e. absurd (clash e refl)) (λ e. absurd (clash e refl))
-            loop-step (right good fits near) = loop-next slot₀ q fits (i + 0) (j + 1) true true (λ e. let w : i ≡ i + 0 = omega arith in subst (λ (p : ℕ). At u₂ (out₂ slot₀ q fits) (m .id) (slot₀ + 1) p (j + 1)) w (step-right good fits near)) (λ e. absurd (clash e refl)) (λ e. absurd (clash e refl))
-            loop-step (level good fits e) = loop-next slot₀ k fits (i + 1) (j + 1) true (ltb k beyond) (λ o. step-both good fits e (ltb-true k beyond o)) (λ o w. step-end good fits e (ltb-false k beyond o)) (λ o w. absurd (clash w refl))
+            loop-step (left good fits near) = loop-next slot₀ k fits (i + 1) (j + 0) true true (λ e. let w : j ≡ j + 0 = omega arith in subst (At u₂ (out₂ slot₀ k fits) (m .id) (slot₀ + 1) (i + 1)) w (step-left good fits near)) (λ e. absurd (not-false-and-true e refl)) (λ e. absurd (not-false-and-true e refl))
+            loop-step (right good fits near) = loop-next slot₀ q fits (i + 0) (j + 1) true true (λ e. let w : i ≡ i + 0 = omega arith in subst (λ (p : ℕ). At u₂ (out₂ slot₀ q fits) (m .id) (slot₀ + 1) p (j + 1)) w (step-right good fits near)) (λ e. absurd (not-false-and-true e refl)) (λ e. absurd (not-false-and-true e refl))
+            loop-step (level good fits e) = loop-next slot₀ k fits (i + 1) (j + 1) true (ltb k beyond) (λ o. step-both good fits e (ltb-true k beyond o)) (λ o w. step-end good fits e (ltb-false k beyond o)) (λ o w. absurd (not-false-and-true w refl))
 
             -- It falls.
-            pub loop-falls : {ok₂ more₂ : Bool} {slot z dl dr : ℕ} → Advances (m .ok) slot₀ k q ok₂ more₂ slot z dl dr → still a b (i + dl) (j + dr) more₂ < still a b i j more
+            pub loop-falls : {ok₂ more₂ : Bool} {slot z dl dr : ℕ} → Advances (m .ok) slot₀ k q ok₂ more₂ slot z dl dr → edges-still-ahead a b (i + dl) (j + dr) more₂ < edges-still-ahead a b i j more
             loop-falls (stopped x) = rw on (omega arith)
             loop-falls (left good fits near) = rw on (omega (arith, here .left-in))
             loop-falls (right good fits near) = rw on (omega (arith, here .right-in))
             loop-falls (level good fits e) = rw on (go (ltb k beyond))
               where
-                go : (b₂ : Bool) → still a b (i + 1) (j + 1) b₂ < still a b i j true
+                go : (b₂ : Bool) → edges-still-ahead a b (i + 1) (j + 1) b₂ < edges-still-ahead a b i j true
                 go true = omega (arith, here .left-in)
                 go false = omega arith
 
       -- What is done so far.
-      pub so-far : Stepped (W .note) h (u, 0) (record { ok = true; id = record { 0 = 0 }; used = now }) st memo st₁ index₁ memo₁
-      so-far = record {
-        outcome = record { lent = l .ready .lent; stays = l .stays; table = λ e. refl; id = λ e. refl; full = λ e. absurd (clash e refl) };
+      pub stepped-so-far : Stepped (W .note) h (u, 0) (record { ok = true; id = record { 0 = 0 }; used = now }) st memo st₁ index₁ memo₁
+      stepped-so-far = record {
+        outcome = record { lent = l .ready .lent; stays = l .stays; table = λ e. refl; id = λ e. refl; full = λ e. absurd (not-false-and-true e refl) };
         long = l .long;
         recalled = l .ready .recalled;
       }
 
       -- The loop is left.
       module _ (off : more ≡ false) where
-        pub merged-no : ok ≡ false → (id : NodeId) → Stepped (W .note) h want (record { ok = false; id = id; used = now }) st memo st₁ index₁ memo₁
-        merged-no bad id = record {
-          outcome = record { lent = l .ready .lent; stays = l .stays; table = λ e. absurd (clash refl e); id = λ e. absurd (clash refl e); full = λ e. l .full off bad };
+        pub stepped-merge-fails : ok ≡ false → (id : NodeId) → Stepped (W .note) h want (record { ok = false; id = id; used = now }) st memo st₁ index₁ memo₁
+        stepped-merge-fails bad id = record {
+          outcome = record { lent = l .ready .lent; stays = l .stays; table = λ e. absurd (not-false-and-true refl e); id = λ e. absurd (not-false-and-true refl e); full = λ e. l .full off bad };
           long = l .long;
           recalled = l .ready .recalled;
         }
@@ -394,11 +384,11 @@ module _ {v n : ℕ} (W : Walk v n) (h : Used) (st : Store) (memo : List ℕ) (a
           closed = record { list = out .list; len = len }
 
           walk-made : Walked t (suc v) (W .m t) (overlay (seen (st .children) (st .cuts) v a 0) (seen (st .children) (st .cuts) v b 0)) whole
-          walk-made = walked f t (suc v) (λ p. Child t (suc v) (p .0) × Child t (suc v) (p .1)) (W .m t) (W .made (s .enough) t (sound-of (r .lent))) t (sound-of (r .lent)) same _
+          walk-made = walk-makes-each f t (suc v) (λ p. Child t (suc v) (p .0) × Child t (suc v) (p .1)) (W .m t) (W .made (s .enough) t (lent-sound (r .lent))) t (lent-sound (r .lent)) same _
               (each-overlay (Child t (suc v)) (Child t (suc v)) (seen (st .children) (st .cuts) v a 0) (seen (st .children) (st .cuts) v b 0) (s .left-kids) (s .right-kids))
 
-          pub can-close : Buildable u v closed
-          can-close = record {
+          pub closed-buildable : Buildable u v closed
+          closed-buildable = record {
             building = record { size = l .size; some = done .some; most = done .most };
             known = s .known;
             reduced = subst (Reduced 0 (topOf v)) (sym (done .pieces)) (reduced-merge 0 (topOf v) (whole .1) (walk-made .shape 0 (topOf v) (rising-overlay 0 (topOf v) _ _ (s .left-rises) (s .right-rises))));
@@ -409,5 +399,5 @@ module _ {v n : ℕ} (W : Walk v n) (h : Used) (st : Store) (memo : List ℕ) (a
           unfolding both walkIn
           wanted = ap₂ (λ (x : Table) (p : Pieces ℕ). settle x v p) (done .table) (done .pieces)
 
-          pub closed-it : {o : Made} {st₂ : Store} {index₂ : List ℕ} → Outcome now (settle u v (piecesOf closed)) o st₁ st₂ index₂ → Stepped (W .note) h want o st memo st₂ index₂ memo₁
-          closed-it o = becomes (then-made r so-far (W .grows) o) wanted
+          pub stepped-when-closed : {o : Made} {st₂ : Store} {index₂ : List ℕ} → Outcome now (settle u v (piecesOf closed)) o st₁ st₂ index₂ → Stepped (W .note) h want o st memo st₂ index₂ memo₁
+          stepped-when-closed o = stepped-equal-want (stepped-then-outcome r stepped-so-far (W .grows) o) wanted

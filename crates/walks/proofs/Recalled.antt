@@ -10,8 +10,8 @@ use Rattle.table.proofs.Promises.{no-word}
 use Rattle.walks.specs.Recalling.{Memo, Hit, Overwritten}
 
 -- A hit is an entry of the memo.
-pub memo-hit : {P : ℕ → ℕ → ℕ → Type 0} {memo : List ℕ} {x y z : ℕ} → Memo P memo → 1 ≤ x → Hit memo x y z → P x y z
-memo-hit {P} m l h = rw (← h .first, ← h .second, ← h .third) (m .entry (h .slot) (omega (arith, h .first)))
+pub hit-was-noted : {P : ℕ → ℕ → ℕ → Type 0} {memo : List ℕ} {x y z : ℕ} → Memo P memo → 1 ≤ x → Hit memo x y z → P x y z
+hit-was-noted {P} m l h = rw (← h .first, ← h .second, ← h .third) (m .entry (h .slot) (omega (arith, h .first)))
 
 -- The three stores of `remember`.
 module _ (memo : List ℕ) (k x y z : ℕ) where
@@ -53,8 +53,8 @@ module _ (memo : List ℕ) (k x y z : ℕ) where
           rw (a, b, d) (m .entry j (rw a at p))
 
 -- What is overwritten keeps its length, and stays true where the new answer is.
-pub overwritten-long : {memo memo′ : List ℕ} {x y z : ℕ} → Overwritten memo x y z memo′ → length memo′ ≡ length memo
-overwritten-long {memo} {memo′} {x} {y} {z} o = ap length (o .words) ∙ length-written memo (o .slot) x y z
+pub overwritten-same-length : {memo memo′ : List ℕ} {x y z : ℕ} → Overwritten memo x y z memo′ → length memo′ ≡ length memo
+overwritten-same-length {memo} {memo′} {x} {y} {z} o = ap length (o .words) ∙ length-written memo (o .slot) x y z
 
 pub overwritten-true : {P : ℕ → ℕ → ℕ → Type 0} {memo memo′ : List ℕ} {x y z : ℕ} → Memo P memo → P x y z → Overwritten memo x y z memo′ → Memo P memo′
 overwritten-true {P} {memo} {memo′} {x} {y} {z} m e o = subst (Memo P) (sym (o .words)) (written-true memo (o .slot) x y z (o .inside) P m e)

@@ -44,7 +44,9 @@ loop-less : tie.Need-loop-less Inv-loop μ-loop
 loop-less c = omega (arith, (c .before .before .before .loop .inv .going) (c .before .before .loop-test .taken) .0)
 
 loop-again : tie.Need-loop-again Inv-loop μ-loop
-loop-again c = copy-next (c .before .before .before .before .before .before .before .pre .0) (c .before .before .before .loop .inv) (c .before .before .before .before .before .before .before .pre .3) (c .before .before .loop-test .taken) (c .before .cut .ensures .0) (c .before .cut .ensures .1) (c .child .ensures)
+loop-again c =
+    let pre· = c .before .before .before .before .before .before .before .pre in
+    copy-next (pre· .0) (c .before .before .before .loop .inv) (pre· .3) (c .before .before .loop-test .taken) (c .before .cut .ensures .0) (c .before .cut .ensures .1) (c .child .ensures)
 
 returns : tie.Need-returns Inv-loop μ-loop
 returns c =

@@ -7,7 +7,9 @@ use Rattle.conditions.proofs.from_bool.Statement.{statement}
 use Rattle.conditions.proofs.from_bool.Tie as tie
 
 create-pair-requires : tie.Need-create-pair-requires
-create-pair-requires c κs = ((c .before .before .before .before .before .before .before .pre .0), (c .before .before .before .before .before .before .before .pre .1), (c .before .before .before .before .before .before .before .pre .2), child-terminal _ _ (c .before .before .before .before .before .before .before .pre .2) true, child-terminal _ _ (c .before .before .before .before .before .before .before .pre .2) false)
+create-pair-requires c κs =
+    let pre· = c .before .before .before .before .before .before .before .pre in
+    ((pre· .0), (pre· .1), (pre· .2), child-terminal _ _ (pre· .2) true, child-terminal _ _ (pre· .2) false)
 
 returns : tie.Need-returns
 unfolding from-bool

@@ -1,14 +1,18 @@
 -- `conditions::within` meets its contract: `settle` on the edges of the range. Assumes nothing.
-use Rattle.conditions.proofs.Wanted.{range-buildable, range-settles, creates-as}
+use Rattle.conditions.proofs.Wanted.{range-buildable, range-settles, creates-equal-want}
 use borrow.Author.Needs.{needs}
 use Rattle.conditions.proofs.within.Statement.{statement}
 use Rattle.conditions.proofs.within.Tie as tie
 
 settle-requires : tie.Need-settle-requires
-settle-requires c κs = ((c .before .before .before .before .before .before .before .before .pre .0), range-buildable _ (c .before .before .before .before .before .before .before .before .pre .1) _ _ (c .before .before .before .before .edges-of .ensures) (c .before .before .before .before .before .before .before .before .pre .2))
+settle-requires c κs =
+    let pre· = c .before .before .before .before .before .before .before .before .pre in
+    ((pre· .0), range-buildable _ (pre· .1) _ _ (c .before .before .before .before .edges-of .ensures) (pre· .2))
 
 returns : tie.Need-returns
-returns c = creates-as (c .before .before .before .before .before .before .before .settle .ensures) (range-settles _ (c .before .before .before .before .before .before .before .before .before .before .before .before .before .before .before .before .pre .1) _ _ (c .before .before .before .before .before .before .before .before .before .before .before .before .edges-of .ensures) (c .before .before .before .before .before .before .before .before .before .before .before .before .before .before .before .before .pre .2))
+returns c =
+    let pre· = c .before .before .before .before .before .before .before .before .before .before .before .before .before .before .before .before .pre in
+    creates-equal-want (c .before .before .before .before .before .before .before .settle .ensures) (range-settles _ (pre· .1) _ _ (c .before .before .before .before .before .before .before .before .before .before .before .before .edges-of .ensures) (pre· .2))
 
 pub within-spec : {M : Type 1} → statement M
 within-spec =

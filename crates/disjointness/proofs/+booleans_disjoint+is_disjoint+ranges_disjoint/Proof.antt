@@ -120,22 +120,34 @@ booleans-disjoint-is-disjoint-requires-2 :
 booleans-disjoint-is-disjoint-requires-2 t c κs = (omega (arith, (c .before .before .before .before .before .before .before .before .before .before .pre .0)), ((c .before .before .before .before .before .before .before .before .before .before .pre .1 .0), asked-child (now (c .before .before .before .before .before .before .before .before .before .before .args .children)) (now (c .before .before .before .before .before .before .before .before .before .before .args .cuts)) _ (c .before .before .before .before .before .before .before .before .before .before .args .used) 32 (c .before .before .before .before .before .before .before .before .before .before .args .ahead) ((c .before .before .before .before .before .before .before .before .before .before .args .a .count) - 1) _ (c .before .before .before .before .before .before .before .before .before .before .args .a) (c .before .before .before .before .before .before .before .before .before .before .pre .1 .1 .left-asked) (omega (arith, (c .before .before .before .before .before .before .before .before .before .before .pre .1 .1 .left .some))) (c .before .before .child3 .ensures), asked-child (now (c .before .before .before .before .before .before .before .before .before .before .args .children)) (now (c .before .before .before .before .before .before .before .before .before .before .args .cuts)) _ (c .before .before .before .before .before .before .before .before .before .before .args .used) 32 (c .before .before .before .before .before .before .before .before .before .before .args .ahead) ((c .before .before .before .before .before .before .before .before .before .before .args .b .count) - 1) _ (c .before .before .before .before .before .before .before .before .before .before .args .b) (c .before .before .before .before .before .before .before .before .before .before .pre .1 .1 .right-asked) (omega (arith, (c .before .before .before .before .before .before .before .before .before .before .pre .1 .1 .right .some))) (c .child4 .ensures)))
 
 booleans-disjoint-returns-2 : (t : ℕ) → booleans-disjoint-lts.Need-returns-2 (booleans-disjoint-claims t) (booleans-disjoint-at t) booleans-disjoint.Post
-booleans-disjoint-returns-2 t c = high-yes (c .before .before .before .before .before .before .before .before .before .before .before .pre .1 .1) (c .before .before .before .before .before .before .before .before .child .ensures) (c .before .before .before .before .before .before .before .child2 .ensures) (c .before .before .before .before .before .before .is-disjoint .ensures) (not-false _ (c .before .before .before .before .before .if1 .left)) (c .before .before .before .before .before .before .before .before .before .before .before .pre .1 .2) (c .before .before .before .before .before .before .before .before .before .before .before .pre .1 .3) (c .before .before .before .child3 .ensures) (c .before .child4 .ensures) (c .is-disjoint2 .ensures)
+booleans-disjoint-returns-2 t c =
+    let pre· = c .before .before .before .before .before .before .before .before .before .before .before .pre in
+    high-yes (pre· .1 .1) (c .before .before .before .before .before .before .before .before .child .ensures) (c .before .before .before .before .before .before .before .child2 .ensures) (c .before .before .before .before .before .before .is-disjoint .ensures) (not-false _ (c .before .before .before .before .before .if1 .left)) (pre· .1 .2) (pre· .1 .3) (c .before .before .before .child3 .ensures) (c .before .child4 .ensures) (c .is-disjoint2 .ensures)
 
 is-disjoint-returns : (t : ℕ) → is-disjoint-lts.Need-returns (is-disjoint-claims t) (is-disjoint-at t) is-disjoint.Post
-is-disjoint-returns t c = opening-yes (c .before .before .before .before .pre .1 .0) (c .before .before .before .before .pre .1 .1) (c .before .before .before .before .pre .1 .2) (c .before .opposed .ensures) (c .if1 .taken)
+is-disjoint-returns t c =
+    let pre· = c .before .before .before .before .pre in
+    opening-yes (pre· .1 .0) (pre· .1 .1) (pre· .1 .2) (c .before .opposed .ensures) (c .if1 .taken)
 
 is-disjoint-returns-2 : (t : ℕ) → is-disjoint-lts.Need-returns-2 (is-disjoint-claims t) (is-disjoint-at t) is-disjoint.Post
-is-disjoint-returns-2 t c = opening-no (c .before .before .before .before .before .before .pre .1 .0) (c .before .before .before .before .before .before .pre .1 .1) (c .before .before .before .before .before .before .pre .1 .2) (c .before .before .before .opposed .ensures) (c .before .before .if1 .left) (c .before .agreeing .ensures) (c .if2 .taken)
+is-disjoint-returns-2 t c =
+    let pre· = c .before .before .before .before .before .before .pre in
+    opening-no (pre· .1 .0) (pre· .1 .1) (pre· .1 .2) (c .before .before .before .opposed .ensures) (c .before .before .if1 .left) (c .before .agreeing .ensures) (c .if2 .taken)
 
 is-disjoint-first-variable-requires : (t : ℕ) → is-disjoint-lts.Need-first-variable-requires (is-disjoint-claims t) (is-disjoint-at t) is-disjoint.Post
-is-disjoint-first-variable-requires t c κs = (left-node (c .before .before .before .before .before .before .pre .1 .0) (c .before .before .before .before .before .before .pre .1 .1) (c .before .before .before .before .before .before .pre .1 .2) (c .before .before .before .opposed .ensures) (c .before .before .if1 .left) (c .before .agreeing .ensures) (c .if2 .left), record-inside (c .before .before .before .before .before .before .pre .1 .0) _ (c .before .before .before .before .before .before .pre .1 .1 .known), right-node (c .before .before .before .before .before .before .pre .1 .0) (c .before .before .before .before .before .before .pre .1 .1) (c .before .before .before .before .before .before .pre .1 .2) (c .before .before .before .opposed .ensures) (c .before .before .if1 .left) (c .before .agreeing .ensures) (c .if2 .left), record-inside (c .before .before .before .before .before .before .pre .1 .0) _ (c .before .before .before .before .before .before .pre .1 .2 .known))
+is-disjoint-first-variable-requires t c κs =
+    let pre· = c .before .before .before .before .before .before .pre in
+    (left-node (pre· .1 .0) (pre· .1 .1) (pre· .1 .2) (c .before .before .before .opposed .ensures) (c .before .before .if1 .left) (c .before .agreeing .ensures) (c .if2 .left), record-inside (pre· .1 .0) _ (pre· .1 .1 .known), right-node (pre· .1 .0) (pre· .1 .1) (pre· .1 .2) (c .before .before .before .opposed .ensures) (c .before .before .if1 .left) (c .before .agreeing .ensures) (c .if2 .left), record-inside (pre· .1 .0) _ (pre· .1 .2 .known))
 
 is-disjoint-view-of-requires : (t : ℕ) → is-disjoint-lts.Need-view-of-requires (is-disjoint-claims t) (is-disjoint-at t) is-disjoint.Post
-is-disjoint-view-of-requires t c κs = (left-node (c .before .before .before .before .before .before .before .pre .1 .0) (c .before .before .before .before .before .before .before .pre .1 .1) (c .before .before .before .before .before .before .before .pre .1 .2) (c .before .before .before .before .opposed .ensures) (c .before .before .before .if1 .left) (c .before .before .agreeing .ensures) (c .before .if2 .left), record-inside (c .before .before .before .before .before .before .before .pre .1 .0) _ (c .before .before .before .before .before .before .before .pre .1 .1 .known))
+is-disjoint-view-of-requires t c κs =
+    let pre· = c .before .before .before .before .before .before .before .pre in
+    (left-node (pre· .1 .0) (pre· .1 .1) (pre· .1 .2) (c .before .before .before .before .opposed .ensures) (c .before .before .before .if1 .left) (c .before .before .agreeing .ensures) (c .before .if2 .left), record-inside (pre· .1 .0) _ (pre· .1 .1 .known))
 
 is-disjoint-view-of-requires-2 : (t : ℕ) → is-disjoint-lts.Need-view-of-requires-2 (is-disjoint-claims t) (is-disjoint-at t) is-disjoint.Post
-is-disjoint-view-of-requires-2 t c κs = (right-node (c .before .before .before .before .before .before .before .before .pre .1 .0) (c .before .before .before .before .before .before .before .before .pre .1 .1) (c .before .before .before .before .before .before .before .before .pre .1 .2) (c .before .before .before .before .before .opposed .ensures) (c .before .before .before .before .if1 .left) (c .before .before .before .agreeing .ensures) (c .before .before .if2 .left), record-inside (c .before .before .before .before .before .before .before .before .pre .1 .0) _ (c .before .before .before .before .before .before .before .before .pre .1 .2 .known))
+is-disjoint-view-of-requires-2 t c κs =
+    let pre· = c .before .before .before .before .before .before .before .before .pre in
+    (right-node (pre· .1 .0) (pre· .1 .1) (pre· .1 .2) (c .before .before .before .before .before .opposed .ensures) (c .before .before .before .before .if1 .left) (c .before .before .before .agreeing .ensures) (c .before .before .if2 .left), record-inside (pre· .1 .0) _ (pre· .1 .2 .known))
 
 is-disjoint-sub-ranges-disjoint : (t : ℕ) → is-disjoint-lts.Need-sub-ranges-disjoint (is-disjoint-claims t) (is-disjoint-at t) is-disjoint.Post
 is-disjoint-sub-ranges-disjoint t c = omega (arith, call-left (c .before .before .before .before .before .before .before .before .before .before .pre .1 .0) _ (c .before .before .before .before .before .before .before .before .before .before .pre .1 .1))
@@ -144,7 +156,9 @@ is-disjoint-ranges-disjoint-requires : (t : ℕ) → is-disjoint-lts.Need-ranges
 is-disjoint-ranges-disjoint-requires t c κs = (omega (arith, (c .before .before .before .before .before .before .before .before .before .before .pre .0), call-left (c .before .before .before .before .before .before .before .before .before .before .pre .1 .0) _ (c .before .before .before .before .before .before .before .before .before .before .pre .1 .1)), ((c .before .before .before .before .before .before .before .before .before .before .pre .1 .0), range-sides (c .before .before .before .before .before .before .before .before .before .before .pre .1 .0) (c .before .before .before .before .before .before .before .before .before .before .pre .1 .1) (c .before .before .before .before .before .before .before .before .before .before .pre .1 .2) (c .before .before .before .before .before .before .before .opposed .ensures) (c .before .before .before .before .before .before .if1 .left) (c .before .before .before .before .before .agreeing .ensures) (c .before .before .before .before .if2 .left) (c .before .before .before .first-variable .ensures) (c .before .before .view-of .ensures) (c .before .view-of2 .ensures) (c .if3 .taken)))
 
 is-disjoint-returns-3 : (t : ℕ) → is-disjoint-lts.Need-returns-3 (is-disjoint-claims t) (is-disjoint-at t) is-disjoint.Post
-is-disjoint-returns-3 t c = range-answer (c .before .before .before .before .before .before .before .before .before .before .before .pre .1 .0) (c .before .before .before .before .before .before .before .before .before .before .before .pre .1 .1) (c .before .before .before .before .before .before .before .before .before .before .before .pre .1 .2) (c .before .before .before .before .before .before .before .before .opposed .ensures) (c .before .before .before .before .before .before .before .if1 .left) (c .before .before .before .before .before .before .agreeing .ensures) (c .before .before .before .before .before .if2 .left) (c .before .before .before .before .first-variable .ensures) (c .before .before .before .view-of .ensures) (c .before .before .view-of2 .ensures) (c .before .if3 .taken) (c .ranges-disjoint .ensures)
+is-disjoint-returns-3 t c =
+    let pre· = c .before .before .before .before .before .before .before .before .before .before .before .pre in
+    range-answer (pre· .1 .0) (pre· .1 .1) (pre· .1 .2) (c .before .before .before .before .before .before .before .before .opposed .ensures) (c .before .before .before .before .before .before .before .if1 .left) (c .before .before .before .before .before .before .agreeing .ensures) (c .before .before .before .before .before .if2 .left) (c .before .before .before .before .first-variable .ensures) (c .before .before .before .view-of .ensures) (c .before .before .view-of2 .ensures) (c .before .if3 .taken) (c .ranges-disjoint .ensures)
 
 is-disjoint-sub-booleans-disjoint : (t : ℕ) → is-disjoint-lts.Need-sub-booleans-disjoint (is-disjoint-claims t) (is-disjoint-at t) is-disjoint.Post
 is-disjoint-sub-booleans-disjoint t c = omega (arith, call-left (c .before .before .before .before .before .before .before .before .before .before .pre .1 .0) _ (c .before .before .before .before .before .before .before .before .before .before .pre .1 .1))
@@ -153,7 +167,9 @@ is-disjoint-booleans-disjoint-requires : (t : ℕ) → is-disjoint-lts.Need-bool
 is-disjoint-booleans-disjoint-requires t c κs = let z = bool-sides (c .before .before .before .before .before .before .before .before .before .before .pre .1 .0) (c .before .before .before .before .before .before .before .before .before .before .pre .1 .1) (c .before .before .before .before .before .before .before .before .before .before .pre .1 .2) (c .before .before .before .before .before .before .before .opposed .ensures) (c .before .before .before .before .before .before .if1 .left) (c .before .before .before .before .before .agreeing .ensures) (c .before .before .before .before .if2 .left) (c .before .before .before .first-variable .ensures) (c .before .before .view-of .ensures) (c .before .view-of2 .ensures) (c .if3 .left) in (omega (arith, (c .before .before .before .before .before .before .before .before .before .before .pre .0), call-left (c .before .before .before .before .before .before .before .before .before .before .pre .1 .0) _ (c .before .before .before .before .before .before .before .before .before .before .pre .1 .1)), ((c .before .before .before .before .before .before .before .before .before .before .pre .1 .0), z .0, z .1, z .2))
 
 is-disjoint-returns-4 : (t : ℕ) → is-disjoint-lts.Need-returns-4 (is-disjoint-claims t) (is-disjoint-at t) is-disjoint.Post
-is-disjoint-returns-4 t c = bool-answer (c .before .before .before .before .before .before .before .before .before .before .before .pre .1 .0) (c .before .before .before .before .before .before .before .before .before .before .before .pre .1 .1) (c .before .before .before .before .before .before .before .before .before .before .before .pre .1 .2) (c .before .before .before .before .before .before .before .before .opposed .ensures) (c .before .before .before .before .before .before .before .if1 .left) (c .before .before .before .before .before .before .agreeing .ensures) (c .before .before .before .before .before .if2 .left) (c .before .before .before .before .first-variable .ensures) (c .before .before .before .view-of .ensures) (c .before .before .view-of2 .ensures) (c .before .if3 .left) (c .booleans-disjoint .ensures)
+is-disjoint-returns-4 t c =
+    let pre· = c .before .before .before .before .before .before .before .before .before .before .before .pre in
+    bool-answer (pre· .1 .0) (pre· .1 .1) (pre· .1 .2) (c .before .before .before .before .before .before .before .before .opposed .ensures) (c .before .before .before .before .before .before .before .if1 .left) (c .before .before .before .before .before .before .agreeing .ensures) (c .before .before .before .before .before .if2 .left) (c .before .before .before .before .first-variable .ensures) (c .before .before .before .view-of .ensures) (c .before .before .view-of2 .ensures) (c .before .if3 .left) (c .booleans-disjoint .ensures)
 
 abbrev ranges-disjoint-Inv-loop : ranges-disjoint-lts.InvT-loop
 ranges-disjoint-Inv-loop nodes children cuts used a b ahead answer₀ i j₀ x k answer j = (answer ≡ true) × Walked ahead (held (store nodes children cuts) used) children cuts a b i j
@@ -192,7 +208,9 @@ ranges-disjoint-cut-requires : (t : ℕ) → ranges-disjoint-lts.Need-cut-requir
     ranges-disjoint-μ-loop
     ranges-disjoint-Inv-left
     ranges-disjoint-μ-left
-ranges-disjoint-cut-requires t c κs = (cuts-inside (c .before .before .before .before .before .before .pre .1 .0) (c .before .before .before .before .before .before .pre .1 .1 .left), (c .before .if1 .taken))
+ranges-disjoint-cut-requires t c κs =
+    let pre· = c .before .before .before .before .before .before .pre in
+    (cuts-inside (pre· .1 .0) (pre· .1 .1 .left), (c .before .if1 .taken))
 
 ranges-disjoint-loop-holds : (t : ℕ) → ranges-disjoint-lts.Need-loop-holds (ranges-disjoint-claims t)
     (ranges-disjoint-at t)
@@ -201,7 +219,9 @@ ranges-disjoint-loop-holds : (t : ℕ) → ranges-disjoint-lts.Need-loop-holds (
     ranges-disjoint-μ-loop
     ranges-disjoint-Inv-left
     ranges-disjoint-μ-left
-ranges-disjoint-loop-holds t c = ((c .before .before .before .before .left .inv .0), (c .before .before .before .before .left .inv .1 .going) (c .before .before .if1 .taken))
+ranges-disjoint-loop-holds t c =
+    let left· = c .before .before .before .before .left in
+    ((left· .inv .0), (left· .inv .1 .going) (c .before .before .if1 .taken))
 
 ranges-disjoint-child-requires-2 : (t : ℕ) → ranges-disjoint-lts.Need-child-requires-2 (ranges-disjoint-claims t)
     (ranges-disjoint-at t)
@@ -228,7 +248,9 @@ ranges-disjoint-cut-requires-2 : (t : ℕ) → ranges-disjoint-lts.Need-cut-requ
     ranges-disjoint-μ-loop
     ranges-disjoint-Inv-left
     ranges-disjoint-μ-left
-ranges-disjoint-cut-requires-2 t c κs = (cuts-inside (c .before .before .before .before .before .before .before .before .before .before .before .before .before .pre .1 .0) (c .before .before .before .before .before .before .before .before .before .before .before .before .before .pre .1 .1 .right), (c .before .before .before .if2 .taken))
+ranges-disjoint-cut-requires-2 t c κs =
+    let pre· = c .before .before .before .before .before .before .before .before .before .before .before .before .before .pre in
+    (cuts-inside (pre· .1 .0) (pre· .1 .1 .right), (c .before .before .before .if2 .taken))
 
 ranges-disjoint-add-j : (t : ℕ) → ranges-disjoint-lts.Need-add-j (ranges-disjoint-claims t)
     (ranges-disjoint-at t)

@@ -9,7 +9,9 @@ use Rattle.views.proofs.child.Statement.{statement}
 use Rattle.views.proofs.child.Tie as tie
 
 returns : tie.Need-returns
-returns c = sym (childSeen-own (now (c .before .before .before .before .args .children)) (c .before .before .before .before .args .w) (c .before .before .before .before .args .j) (c .if1 .taken))
+returns c =
+    let args· = c .before .before .before .before .args in
+    sym (childSeen-own (now (args· .children)) (args· .w) (args· .j) (c .if1 .taken))
 
 add-child-at : tie.Need-add-child-at
 add-child-at c = record { fits = omega (arith, (c .before .before .before .before .pre .1), (c .before .before .before .before .pre .0 .within) (one-more (c .before .before .before .before .pre .0 .some) (c .if1 .left))) }
@@ -18,7 +20,9 @@ child-at-requires : tie.Need-child-at-requires
 child-at-requires c κs = omega (arith, (c .before .before .before .before .pre .1), (c .before .before .before .before .pre .0 .within) (one-more (c .before .before .before .before .pre .0 .some) (c .if1 .left)))
 
 returns-2 : tie.Need-returns-2
-returns-2 c = (c .negate .ensures) ∙ (ap (under (sign (c .before .before .before .before .before .before .args .w .id .0))) (c .before .child-at .ensures .0) ∙ sym (childSeen-kid (now (c .before .before .before .before .before .before .args .children)) (c .before .before .before .before .before .before .args .w) (c .before .before .before .before .before .before .args .j) (c .before .before .if1 .left)))
+returns-2 c =
+    let args· = c .before .before .before .before .before .before .args in
+    (c .negate .ensures) ∙ (ap (under (sign (args· .w .id .0))) (c .before .child-at .ensures .0) ∙ sym (childSeen-kid (now (args· .children)) (args· .w) (args· .j) (c .before .before .if1 .left)))
 
 pub child-spec : {M : Type 1} → statement M
 child-spec =

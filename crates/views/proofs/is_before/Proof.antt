@@ -9,7 +9,9 @@ use Rattle.views.proofs.is_before.Statement.{statement}
 use Rattle.views.proofs.is_before.Tie as tie
 
 returns : tie.Need-returns
-returns c = rw (lt-ltb 1 (c .before .before .before .before .args .id .0) (c .before .if1 .taken)) (ap (λ (w : ℕ). ltb w (c .before .before .before .before .args .v)) (c .variable .ensures))
+returns c =
+    let args· = c .before .before .before .before .args in
+    rw (lt-ltb 1 (args· .id .0) (c .before .if1 .taken)) (ap (λ (w : ℕ). ltb w (args· .v)) (c .variable .ensures))
 
 returns-2 : tie.Need-returns-2
 returns-2 c = rw (le-ltb 1 (c .before .before .before .args .id .0) (omega (arith, (c .if1 .left))))

@@ -7,7 +7,11 @@ use Rattle.conjunction.proofs.joins.or.Tie as tie
 use Rattle.table.specs.Layout.{store}
 
 returns : tie.Need-returns
-returns c = or-joined (tableOf (c .before .before .before .before .before .before .before .before .before .before .before .before .before .before .before .before .before .before .before .before .before .before .before .before .args .used) (store (c .before .before .before .before .before .before .before .before .before .before .before .before .before .before .before .before .before .before .before .before .before .before .before .before .args .nodes .now) (c .before .before .before .before .before .before .before .before .before .before .before .before .before .before .before .before .before .before .before .before .before .before .before .before .args .children .now) (c .before .before .before .before .before .before .before .before .before .before .before .before .before .before .before .before .before .before .before .before .before .before .before .before .args .cuts .now))) (c .before .before .before .before .before .before .before .before .before .before .before .before .before .before .before .before .before .before .before .before .before .before .before .before .args .x .0) (c .before .before .before .before .before .before .before .before .before .before .before .before .before .before .before .before .before .before .before .before .before .before .before .before .args .y .0) (c .before .before .before .before .before .before .before .before .before .before .before .before .before .before .not .result .0) (c .before .before .before .before .before .before .before .before .before .before .before .before .before .not2 .result .0) (c .before .before .before .before .before .before .before .before .before .before .before .before .before .before .not .ensures) (c .before .before .before .before .before .before .before .before .before .before .before .before .before .not2 .ensures) (c .before .before .before .before .before .before .before .before .before .before .before .before .and .ensures) _ (c .not3 .ensures)
+returns c =
+    let args· = c .before .before .before .before .before .before .before .before .before .before .before .before .before .before .before .before .before .before .before .before .before .before .before .before .args in
+    let not· = c .before .before .before .before .before .before .before .before .before .before .before .before .before .before .not in
+    let not2· = c .before .before .before .before .before .before .before .before .before .before .before .before .before .not2 in
+    or-joined (tableOf (args· .used) (store (args· .nodes .now) (args· .children .now) (args· .cuts .now))) (args· .x .0) (args· .y .0) (not· .result .0) (not2· .result .0) (not· .ensures) (not2· .ensures) (c .before .before .before .before .before .before .before .before .before .before .before .before .and .ensures) _ (c .not3 .ensures)
 
 pub or-spec : {M : Type 1} → statement M
 or-spec =

@@ -1,7 +1,7 @@
 -- `admission::admit_ids` meets its contract. Assumes nothing.
 use native.Mathlib.Omega.{arith}
 use borrow.Author.Tests.{not-true, not-false}
-use Rattle.table.proofs.Laws.{proved, refuted}
+use Rattle.table.proofs.Laws.{decided-true, decided-false}
 use Rattle.kernel.specs.Admitting.{ids-not-long, ids-not-known}
 use Rattle.kernel.proofs.Admitted.{admitted-lent}
 use Rattle.kernel.proofs.Deciding.{asks-none}
@@ -22,13 +22,13 @@ both-known-requires c κs =
     omega (arith, l .0 .sound .records .fits, l .0 .allowed .most-nodes)
 
 returns-3 : tie.Need-returns-3
-returns-3 c = ids-not-known _ _ (omega arith) (admitted-lent asks-none (c .before .before .before .before .before .admit .ensures) (c .before .before .before .if2 .left) .0) (refuted (c .before .both-known .ensures) (not-true _ (c .if3 .taken)))
+returns-3 c = ids-not-known _ _ (omega arith) (admitted-lent asks-none (c .before .before .before .before .before .admit .ensures) (c .before .before .before .if2 .left) .0) (decided-false (c .before .both-known .ensures) (not-true _ (c .if3 .taken)))
 
 returns-4 : tie.Need-returns-4
-returns-4 c = ids-refuse-kind (omega arith) (admitted-lent asks-none (c .before .before .before .before .before .before .admit .ensures) (c .before .before .before .before .if2 .left) .0) (proved (c .before .before .both-known .ensures) (not-false _ (c .before .if3 .left))) (not-true _ (c .if4 .taken))
+returns-4 c = ids-refuse-kind (omega arith) (admitted-lent asks-none (c .before .before .before .before .before .before .admit .ensures) (c .before .before .before .before .if2 .left) .0) (decided-true (c .before .before .both-known .ensures) (not-false _ (c .before .if3 .left))) (not-true _ (c .if4 .taken))
 
 returns-5 : tie.Need-returns-5
-returns-5 c = ids-admit (omega arith) (admitted-lent asks-none (c .before .before .before .before .before .before .admit .ensures) (c .before .before .before .before .if2 .left) .0) (proved (c .before .before .both-known .ensures) (not-false _ (c .before .if3 .left))) (not-false _ (c .if4 .left))
+returns-5 c = ids-admit (omega arith) (admitted-lent asks-none (c .before .before .before .before .before .before .admit .ensures) (c .before .before .before .before .if2 .left) .0) (decided-true (c .before .before .both-known .ensures) (not-false _ (c .before .if3 .left))) (not-false _ (c .if4 .left))
 
 pub admit-ids-spec : {M : Type 1} → statement M
 admit-ids-spec =

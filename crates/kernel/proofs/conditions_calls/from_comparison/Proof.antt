@@ -14,7 +14,9 @@ from-comparison-requires c κs =
     (x .0, omega (arith, (c .wide .ensures .0), x .1))
 
 returns-2 : tie.Need-returns-2
-returns-2 c = condition-answered _ _ _ _ (admitted-lent (c .before .before .before .before .before .before .before .before .before .before .before .before .before .before .before .before .before .before .is-range .ensures) (c .before .before .before .before .before .before .before .before .before .before .before .before .before .before .before .before .before .admit .ensures) (c .before .before .before .before .before .before .before .before .before .before .before .before .before .before .before .if1 .left)) (c .before .before .before .before .before .before .before .before .from-comparison .ensures) (same-comparison _ (c .before .before .before .before .before .before .before .before .before .before .before .before .before .before .before .before .before .before .before .before .before .before .before .before .before .before .args .op) (c .before .before .before .before .before .before .before .before .before .before .before .before .before .before .before .before .before .before .before .before .before .before .before .before .before .before .args .key) (c .before .before .before .before .before .before .before .before .before .wide .ensures .0) (c .before .before .before .before .before .before .before .before .before .before .before .before .before .before .before .before .before .before .before .before .before .before .before .before .before .before .fits .key)) (c .answer-of .ensures)
+returns-2 c =
+    let start = c .before .before .before .before .before .before .before .before .before .before .before .before .before .before .before .before .before .before .before .before .before .before .before .before .before .before in
+    condition-answered _ _ _ _ (admitted-lent (c .before .before .before .before .before .before .before .before .before .before .before .before .before .before .before .before .before .before .is-range .ensures) (c .before .before .before .before .before .before .before .before .before .before .before .before .before .before .before .before .before .admit .ensures) (c .before .before .before .before .before .before .before .before .before .before .before .before .before .before .before .if1 .left)) (c .before .before .before .before .before .before .before .before .from-comparison .ensures) (same-comparison _ (start .args .op) (start .args .key) (c .before .before .before .before .before .before .before .before .before .wide .ensures .0) (start .fits .key)) (c .answer-of .ensures)
 
 pub from-comparison-spec : {M : Type 1} → statement M
 from-comparison-spec =

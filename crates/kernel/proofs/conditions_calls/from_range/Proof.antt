@@ -14,7 +14,9 @@ from-range-requires c κs =
     (x .0, omega (arith, (c .wide .ensures .0), x .1))
 
 returns-2 : tie.Need-returns-2
-returns-2 c = condition-answered _ _ _ _ (admitted-lent (c .before .before .before .before .before .before .before .before .before .before .before .before .before .before .before .before .before .before .is-range .ensures) (c .before .before .before .before .before .before .before .before .before .before .before .before .before .before .before .before .before .admit .ensures) (c .before .before .before .before .before .before .before .before .before .before .before .before .before .before .before .if1 .left)) (c .before .before .before .before .before .before .before .before .from-range .ensures) (same-range _ (c .before .before .before .before .before .before .before .before .before .before .before .before .before .before .before .before .before .before .before .before .before .before .before .before .before .before .args .lower) (c .before .before .before .before .before .before .before .before .before .before .before .before .before .before .before .before .before .before .before .before .before .before .before .before .before .before .args .upper) (c .before .before .before .before .before .before .before .before .before .wide .ensures .0)) (c .answer-of .ensures)
+returns-2 c =
+    let args· = c .before .before .before .before .before .before .before .before .before .before .before .before .before .before .before .before .before .before .before .before .before .before .before .before .before .before .args in
+    condition-answered _ _ _ _ (admitted-lent (c .before .before .before .before .before .before .before .before .before .before .before .before .before .before .before .before .before .before .is-range .ensures) (c .before .before .before .before .before .before .before .before .before .before .before .before .before .before .before .before .before .admit .ensures) (c .before .before .before .before .before .before .before .before .before .before .before .before .before .before .before .if1 .left)) (c .before .before .before .before .before .before .before .before .from-range .ensures) (same-range _ (args· .lower) (args· .upper) (c .before .before .before .before .before .before .before .before .before .wide .ensures .0)) (c .answer-of .ensures)
 
 pub from-range-spec : {M : Type 1} → statement M
 from-range-spec =

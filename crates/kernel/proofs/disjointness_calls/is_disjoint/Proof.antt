@@ -1,9 +1,9 @@
 -- `disjointness_calls::is_disjoint` has the one outcome that its contract allows. Assumes nothing.
 use native.Mathlib.Omega.{arith}
 use borrow.Author.Tests.{not-true, not-false}
-use Rattle.table.proofs.Laws.{proved, refuted}
-use Rattle.table.proofs.Hearing.{check-passes}
-use Rattle.views.proofs.Sights.{readable, asked-all}
+use Rattle.table.proofs.Laws.{decided-true, decided-false}
+use Rattle.table.proofs.Hearing.{passed-check-sound}
+use Rattle.views.proofs.Sights.{sound-readable, asked-of-all-known}
 use Rattle.kernel.specs.Makes.{disjoint-3}
 use Rattle.kernel.proofs.Handing.{check-says-no, disjoint-it}
 use borrow.Author.Needs.{needs}
@@ -15,24 +15,24 @@ returns c = check-says-no _ _ _ _ (c .before .before .check .ensures) (c .if1 .t
 
 both-known-requires : tie.Need-both-known-requires
 both-known-requires c κs =
-    let p = check-passes _ _ (c .before .before .check .ensures) (c .if1 .left) in
+    let p = passed-check-sound _ _ (c .before .before .check .ensures) (c .if1 .left) in
     omega (arith, p .1 .records .fits, p .0 .most-nodes)
 
 returns-2 : tie.Need-returns-2
 returns-2 c =
-    let p = check-passes _ _ (c .before .before .before .before .check .ensures) (c .before .before .if1 .left) in
-    disjoint-3 (p .0) _ (p .1) (refuted (c .before .both-known .ensures) (not-true _ (c .if2 .taken)))
+    let p = passed-check-sound _ _ (c .before .before .before .before .check .ensures) (c .before .before .if1 .left) in
+    disjoint-3 (p .0) _ (p .1) (decided-false (c .before .both-known .ensures) (not-true _ (c .if2 .taken)))
 
 is-disjoint-requires : tie.Need-is-disjoint-requires
 is-disjoint-requires c κs =
-    let p = check-passes _ _ (c .before .before .before .before .check .ensures) (c .before .before .if1 .left) in
-    let k = proved (c .before .both-known .ensures) (not-false _ (c .if2 .left)) in
-    (readable _ _ _ (p .0) (p .1), asked-all (k .0), asked-all (k .1))
+    let p = passed-check-sound _ _ (c .before .before .before .before .check .ensures) (c .before .before .if1 .left) in
+    let k = decided-true (c .before .both-known .ensures) (not-false _ (c .if2 .left)) in
+    (sound-readable _ _ _ (p .0) (p .1), asked-of-all-known (k .0), asked-of-all-known (k .1))
 
 returns-3 : tie.Need-returns-3
 returns-3 c =
-    let p = check-passes _ _ (c .before .before .before .before .before .check .ensures) (c .before .before .before .if1 .left) in
-    disjoint-it _ _ _ _ (p .0) (p .1) (proved (c .before .before .both-known .ensures) (not-false _ (c .before .if2 .left))) (c .is-disjoint .ensures)
+    let p = passed-check-sound _ _ (c .before .before .before .before .before .check .ensures) (c .before .before .before .if1 .left) in
+    disjoint-it _ _ _ _ (p .0) (p .1) (decided-true (c .before .before .both-known .ensures) (not-false _ (c .before .if2 .left))) (c .is-disjoint .ensures)
 
 pub is-disjoint-spec : {M : Type 1} → statement M
 is-disjoint-spec =

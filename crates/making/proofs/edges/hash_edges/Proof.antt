@@ -4,7 +4,7 @@ use mathlib.Core.Path.{_≡_, ap, sym, _∙_}
 use native.Mathlib.Omega.{arith}
 use borrow.Author.Needs.{needs}
 use Rattle.ids.specs.Id.{sign}
-use Rattle.table.proofs.Laws.{mixed}
+use Rattle.table.proofs.Laws.{mix-at-equal}
 use Rattle.making.specs.Building.{hashIn}
 use Rattle.making.proofs.Hashing.{key-is, key-small, hash-none, hash-next}
 use Rattle.making.proofs.edges.hash_edges.Statement.{statement}
@@ -26,7 +26,7 @@ mixed-requires : tie.Need-mixed-requires Inv-loop μ-loop
 mixed-requires c κs = ((c .before .before .before .before .before .loop .inv .1), (c .before .wide .ensures .1), let k = (c .key-of .ensures) ∙ key-is (c .before .before .before .before .before .before .args .v) (c .before .before .before .before .before .loop .j) (c .before .before .before .before .before .before .args .t3) in omega (arith, k, key-small (c .before .before .before .before .before .before .args .v) (c .before .before .before .before .before .loop .j) (c .before .before .before .before .before .before .args .t3) (λ l. (c .before .before .before .before .before .before .pre .2) (c .before .before .before .before .before .loop .j) l)))
 
 loop-again : tie.Need-loop-again Inv-loop μ-loop
-loop-again c = (omega arith, (c .mixed .ensures .1), (c .mixed .ensures .0) ∙ mixed (c .before .before .before .before .before .before .loop .inv .2) ((c .before .before .wide .ensures .0) ∙ (c .before .before .before .negate .ensures)) ((c .before .key-of .ensures) ∙ key-is (c .before .before .before .before .before .before .before .args .v) (c .before .before .before .before .before .before .loop .j) (c .before .before .before .before .before .before .before .args .t3)) ∙ sym (hash-next (c .before .before .before .before .before .before .before .args .v) (sign (c .before .before .before .before .before .before .before .args .lead .0)) (c .before .before .before .before .before .before .before .args .t3) (c .before .before .before .before .before .before .loop .j)))
+loop-again c = (omega arith, (c .mixed .ensures .1), (c .mixed .ensures .0) ∙ mix-at-equal (c .before .before .before .before .before .before .loop .inv .2) ((c .before .before .wide .ensures .0) ∙ (c .before .before .before .negate .ensures)) ((c .before .key-of .ensures) ∙ key-is (c .before .before .before .before .before .before .before .args .v) (c .before .before .before .before .before .before .loop .j) (c .before .before .before .before .before .before .before .args .t3)) ∙ sym (hash-next (c .before .before .before .before .before .before .before .args .v) (sign (c .before .before .before .before .before .before .before .args .lead .0)) (c .before .before .before .before .before .before .before .args .t3) (c .before .before .before .before .before .before .loop .j)))
 
 returns : tie.Need-returns Inv-loop μ-loop
 returns c = let e : (c .before .loop .j) ≡ (c .before .before .args .t3 .len) = omega arith in ((c .before .loop .inv .2) ∙ ap (hashIn (c .before .before .args .v) (sign (c .before .before .args .lead .0)) (c .before .before .args .t3)) e, (c .before .loop .inv .1))

@@ -5,7 +5,9 @@ use Rattle.making.proofs.nodes.create_node.Statement.{statement}
 use Rattle.making.proofs.nodes.create_node.Tie as tie
 
 settle-requires : tie.Need-settle-requires
-settle-requires c κs = ((c .before .before .before .before .before .before .before .before .pre .0), merged-builds (c .before .before .before .before .before .before .before .before .pre .1) (c .merged .ensures))
+settle-requires c κs =
+    let pre· = c .before .before .before .before .before .before .before .before .pre in
+    ((pre· .0), merged-builds (pre· .1) (c .merged .ensures))
 
 returns : tie.Need-returns
 returns c = rw (c .before .before .before .before .before .before .before .before .merged .ensures .1) at (c .before .before .before .before .before .before .before .settle .ensures)

@@ -5,7 +5,9 @@ use Rattle.making.proofs.nodes.create_pair.Statement.{statement}
 use Rattle.making.proofs.nodes.create_pair.Tie as tie
 
 settle-requires : tie.Need-settle-requires
-settle-requires c κs = ((c .before .before .before .before .before .before .before .before .pre .0), pair-buildable _ (c .before .before .before .before .before .before .before .before .pre .1) (c .before .before .before .before .before .before .before .before .pre .2) (c .before .before .before .before .before .before .before .before .args .high) (c .before .before .before .before .before .before .before .before .args .low) (c .before .before .before .before .before .before .before .before .pre .3) (c .before .before .before .before .before .before .before .before .pre .4) (c .pair-of .ensures))
+settle-requires c κs =
+    let start = c .before .before .before .before .before .before .before .before in
+    ((start .pre .0), pair-buildable _ (start .pre .1) (start .pre .2) (start .args .high) (start .args .low) (start .pre .3) (start .pre .4) (c .pair-of .ensures))
 
 returns : tie.Need-returns
 returns c = rw (c .before .before .before .before .before .before .before .before .pair-of .ensures .1) at (c .before .before .before .before .before .before .before .settle .ensures)

@@ -21,13 +21,17 @@ word-requires : tie.Need-word-requires Inv-loop μ-loop
 word-requires c κs = omega (arith, (c .before .before .before .pre .0 .indexed), (c .before .before .before .pre .4))
 
 loop-holds : tie.Need-loop-holds Inv-loop μ-loop
-loop-holds c = λ u z. look-first (store (now (c .before .before .before .before .args .nodes)) (now (c .before .before .before .before .args .children)) (now (c .before .before .before .before .args .cuts))) (now (c .before .before .before .before .args .index)) u (c .before .before .before .before .args .v) (sign (c .before .before .before .before .args .lead .0)) (c .before .before .before .before .args .es) (c .before .before .before .before .args .bucket) z (c .before .before .before .before .pre .3) (c .before .before .before .before .pre .4) (c .word .ensures .0)
+loop-holds c =
+    let start = c .before .before .before .before in
+    λ u z. look-first (store (now (start .args .nodes)) (now (start .args .children)) (now (start .args .cuts))) (now (start .args .index)) u (start .args .v) (sign (start .args .lead .0)) (start .args .es) (start .args .bucket) z (start .pre .3) (start .pre .4) (c .word .ensures .0)
 
 same-node-requires : tie.Need-same-node-requires Inv-loop μ-loop
 same-node-requires c κs = let w = ((c .before .loop .inv) (c .before .before .before .before .before .before .pre .1 .used) (c .before .before .before .before .before .before .pre .1 .sound)) .within in (omega (arith, (c .loop-test .taken), (c .before .before .before .before .before .before .pre .0 .whole), (c .before .before .before .before .before .before .pre .1 .sound .records .fits)), (c .before .before .before .before .before .before .pre .0 .cut-each), (c .before .before .before .before .before .before .pre .1 .sound .records .rules) ((c .before .loop .at) - 1) (omega (arith, (c .loop-test .taken))), (c .before .before .before .before .before .before .pre .1 .buildable .building))
 
 returns : tie.Need-returns Inv-loop μ-loop
-returns c = λ u z. look-found (store (now (c .before .before .before .before .before .before .before .before .args .nodes)) (now (c .before .before .before .before .before .before .before .before .args .children)) (now (c .before .before .before .before .before .before .before .before .args .cuts))) (now (c .before .before .before .before .before .before .before .before .args .index)) u (c .before .before .before .before .before .before .before .before .args .v) (sign (c .before .before .before .before .before .before .before .before .args .lead .0)) (c .before .before .before .before .before .before .before .before .args .es) (c .before .before .before .before .before .before .before .before .args .bucket) z (c .before .before .before .before .before .before .before .before .pre .3) (c .before .before .before .before .before .before .before .before .pre .2) (c .before .before .before .before .before .before .before .before .pre .1 .buildable .reduced) ((c .before .before .before .loop .inv) u z) (c .before .before .loop-test .taken) (laws.proved (c .before .same-node .ensures) (c .if1 .taken))
+returns c =
+    let start = c .before .before .before .before .before .before .before .before in
+    λ u z. look-found (store (now (start .args .nodes)) (now (start .args .children)) (now (start .args .cuts))) (now (start .args .index)) u (start .args .v) (sign (start .args .lead .0)) (start .args .es) (start .args .bucket) z (start .pre .3) (start .pre .2) (start .pre .1 .buildable .reduced) ((c .before .before .before .loop .inv) u z) (c .before .before .loop-test .taken) (laws.decided-true (c .before .same-node .ensures) (c .if1 .taken))
 
 add-word : tie.Need-add-word Inv-loop μ-loop
 add-word c = let w = ((c .before .before .before .loop .inv) (c .before .before .before .before .before .before .before .before .pre .1 .used) (c .before .before .before .before .before .before .before .before .pre .1 .sound)) .within in omega (arith, (c .before .before .loop-test .taken), (c .before .before .before .before .before .before .before .before .pre .0 .most-nodes), (c .before .before .before .before .before .before .before .before .pre .1 .sound .records .fits))
@@ -36,10 +40,14 @@ word-requires-2 : tie.Need-word-requires-2 Inv-loop μ-loop
 word-requires-2 c κs = let w = ((c .before .before .before .loop .inv) (c .before .before .before .before .before .before .before .before .pre .1 .used) (c .before .before .before .before .before .before .before .before .pre .1 .sound)) .within in omega (arith, (c .before .before .loop-test .taken), (c .before .before .before .before .before .before .before .before .pre .0 .indexed), (c .before .before .before .before .before .before .before .before .pre .1 .sound .records .fits))
 
 loop-less : tie.Need-loop-less Inv-loop μ-loop
-loop-less c = look-less (store (now (c .before .before .before .before .before .before .before .before .before .args .nodes)) (now (c .before .before .before .before .before .before .before .before .before .args .children)) (now (c .before .before .before .before .before .before .before .before .before .args .cuts))) (now (c .before .before .before .before .before .before .before .before .before .args .index)) (c .before .before .before .before .before .before .before .before .before .pre .1 .used) (c .before .before .before .before .before .before .before .before .before .args .v) (sign (c .before .before .before .before .before .before .before .before .before .args .lead .0)) (c .before .before .before .before .before .before .before .before .before .args .es) (c .before .before .before .before .before .before .before .before .before .args .bucket) (c .before .before .before .before .before .before .before .before .before .pre .1 .sound) (c .before .before .before .before .before .before .before .before .before .pre .3) (c .before .before .before .loop-test .taken) ((c .before .before .before .before .loop .inv) (c .before .before .before .before .before .before .before .before .before .pre .1 .used) (c .before .before .before .before .before .before .before .before .before .pre .1 .sound)) (c .word2 .ensures .0)
+loop-less c =
+    let start = c .before .before .before .before .before .before .before .before .before in
+    look-less (store (now (start .args .nodes)) (now (start .args .children)) (now (start .args .cuts))) (now (start .args .index)) (start .pre .1 .used) (start .args .v) (sign (start .args .lead .0)) (start .args .es) (start .args .bucket) (start .pre .1 .sound) (start .pre .3) (c .before .before .before .loop-test .taken) ((c .before .before .before .before .loop .inv) (start .pre .1 .used) (start .pre .1 .sound)) (c .word2 .ensures .0)
 
 loop-again : tie.Need-loop-again Inv-loop μ-loop
-loop-again c = λ u z. look-next (store (now (c .before .before .before .before .before .before .before .before .before .args .nodes)) (now (c .before .before .before .before .before .before .before .before .before .args .children)) (now (c .before .before .before .before .before .before .before .before .before .args .cuts))) (now (c .before .before .before .before .before .before .before .before .before .args .index)) u (c .before .before .before .before .before .before .before .before .before .args .v) (sign (c .before .before .before .before .before .before .before .before .before .args .lead .0)) (c .before .before .before .before .before .before .before .before .before .args .es) (c .before .before .before .before .before .before .before .before .before .args .bucket) z (c .before .before .before .before .before .before .before .before .before .pre .3) (c .before .before .before .loop-test .taken) ((c .before .before .before .before .loop .inv) u z) (c .word2 .ensures .0) (laws.refuted (c .before .before .same-node .ensures) (c .before .if1 .left))
+loop-again c =
+    let start = c .before .before .before .before .before .before .before .before .before in
+    λ u z. look-next (store (now (start .args .nodes)) (now (start .args .children)) (now (start .args .cuts))) (now (start .args .index)) u (start .args .v) (sign (start .args .lead .0)) (start .args .es) (start .args .bucket) z (start .pre .3) (c .before .before .before .loop-test .taken) ((c .before .before .before .before .loop .inv) u z) (c .word2 .ensures .0) (laws.decided-false (c .before .before .same-node .ensures) (c .before .if1 .left))
 
 returns-2 : tie.Need-returns-2 Inv-loop μ-loop
 returns-2 c = λ u z. look-none (store (now (c .before .before .before .before .before .before .args .nodes)) (now (c .before .before .before .before .before .before .args .children)) (now (c .before .before .before .before .before .before .args .cuts))) (now (c .before .before .before .before .before .before .args .index)) u (c .before .before .before .before .before .before .args .v) (sign (c .before .before .before .before .before .before .args .lead .0)) (c .before .before .before .before .before .before .args .es) (c .before .before .before .before .before .before .args .bucket) z (c .before .before .before .before .before .before .pre .3) (c .before .before .before .before .before .before .pre .2) (c .before .before .before .before .before .before .pre .1 .buildable .reduced) ((c .before .loop .inv) u z) (omega arith)

@@ -46,7 +46,9 @@ child-at-requires : tie.Need-child-at-requires Inv-loop μ-loop
 child-at-requires c κs = omega (arith, (c .before .before .before .before .first-of .ensures .0), (c .before .before .before .before .before .before .count-of .ensures .0), (c .before .before .before .before .before .if2 .left), (c .before .before .before .before .before .before .before .before .before .before .before .pre .2 .inside))
 
 returns-3 : tie.Need-returns-3 Inv-loop μ-loop
-returns-3 c = fails (λ p. (c .if3 .taken) ((c .before .before .child-at .ensures .0) ∙ kid-at (now (c .before .before .before .before .before .before .before .before .before .before .before .before .before .before .args .children)) (c .before .before .before .before .before .before .loop .j) (c .before .before .before .before .before .before .before .first-of .ensures .0) ∙ p .child (c .before .before .before .before .before .before .loop .j) (c .before .before .before .before .before .loop-test .taken) ∙ sym ((c .before .wide .ensures .0) ∙ (c .before .before .before .negate .ensures))))
+returns-3 c =
+    let loop· = c .before .before .before .before .before .before .loop in
+    fails (λ p. (c .if3 .taken) ((c .before .before .child-at .ensures .0) ∙ kid-at (now (c .before .before .before .before .before .before .before .before .before .before .before .before .before .before .args .children)) (loop· .j) (c .before .before .before .before .before .before .before .first-of .ensures .0) ∙ p .child (loop· .j) (c .before .before .before .before .before .loop-test .taken) ∙ sym ((c .before .wide .ensures .0) ∙ (c .before .before .before .negate .ensures))))
 
 add-cut-position-at : tie.Need-add-cut-position-at Inv-loop μ-loop
 add-cut-position-at c = omega (arith, (c .before .before .before .before .before .before .before .first-of .ensures .1), (c .before .before .before .before .before .before .before .before .before .before .before .before .before .before .pre .3 .most))
@@ -58,10 +60,13 @@ key-of-requires : tie.Need-key-of-requires Inv-loop μ-loop
 key-of-requires c κs = omega (arith, (c .before .before .before .before .before .before .before .before .before .before .before .before .before .before .before .pre .3 .most))
 
 returns-4 : tie.Need-returns-4 Inv-loop μ-loop
-returns-4 c = fails (λ p. (c .if4 .taken) ((c .before .before .cut-position-at .ensures .0) ∙ cut-at (now (c .before .before .before .before .before .before .before .before .before .before .before .before .before .before .before .before .before .args .cuts)) (c .before .before .before .before .before .before .before .before .before .loop .j) (c .before .before .before .before .before .before .before .before .before .before .first-of .ensures .0) ∙ p .cut (c .before .before .before .before .before .before .before .before .before .loop .j) (c .before .before .before .before .before .before .before .before .loop-test .taken) ∙ sym ((c .before .key-of .ensures) ∙ key-is (c .before .before .before .before .before .before .before .before .before .before .before .before .before .before .before .before .before .args .v) (c .before .before .before .before .before .before .before .before .before .loop .j) (c .before .before .before .before .before .before .before .before .before .before .before .before .before .before .before .before .before .args .t7))))
+returns-4 c =
+    let args· = c .before .before .before .before .before .before .before .before .before .before .before .before .before .before .before .before .before .args in
+    let loop· = c .before .before .before .before .before .before .before .before .before .loop in
+    fails (λ p. (c .if4 .taken) ((c .before .before .cut-position-at .ensures .0) ∙ cut-at (now (args· .cuts)) (loop· .j) (c .before .before .before .before .before .before .before .before .before .before .first-of .ensures .0) ∙ p .cut (loop· .j) (c .before .before .before .before .before .before .before .before .loop-test .taken) ∙ sym ((c .before .key-of .ensures) ∙ key-is (args· .v) (loop· .j) (args· .t7))))
 
 loop-again : tie.Need-loop-again Inv-loop μ-loop
-loop-again c = (omega arith, λ k l. ⊎-elim (λ q. rw q (sym (c .before .before .before .before .before .child-at .ensures .0) ∙ (c .before .before .before .if3 .left) ∙ (c .before .before .before .before .wide .ensures .0) ∙ (c .before .before .before .before .before .before .negate .ensures))) (λ h. (c .before .before .before .before .before .before .before .before .before .loop .inv .1) k h) (laws.last k (c .before .before .before .before .before .before .before .before .before .loop .j) l), λ k l. ⊎-elim (λ q. rw q (sym (c .before .before .cut-position-at .ensures .0) ∙ (c .if4 .left) ∙ (c .before .key-of .ensures) ∙ key-is (c .before .before .before .before .before .before .before .before .before .before .before .before .before .before .before .before .before .args .v) (c .before .before .before .before .before .before .before .before .before .loop .j) (c .before .before .before .before .before .before .before .before .before .before .before .before .before .before .before .before .before .args .t7))) (λ h. (c .before .before .before .before .before .before .before .before .before .loop .inv .2) k h) (laws.last k (c .before .before .before .before .before .before .before .before .before .loop .j) l))
+loop-again c = (omega arith, λ k l. ⊎-elim (λ q. rw q (sym (c .before .before .before .before .before .child-at .ensures .0) ∙ (c .before .before .before .if3 .left) ∙ (c .before .before .before .before .wide .ensures .0) ∙ (c .before .before .before .before .before .before .negate .ensures))) (λ h. (c .before .before .before .before .before .before .before .before .before .loop .inv .1) k h) (laws.eq-or-lt k (c .before .before .before .before .before .before .before .before .before .loop .j) l), λ k l. ⊎-elim (λ q. rw q (sym (c .before .before .cut-position-at .ensures .0) ∙ (c .if4 .left) ∙ (c .before .key-of .ensures) ∙ key-is (c .before .before .before .before .before .before .before .before .before .before .before .before .before .before .before .before .before .args .v) (c .before .before .before .before .before .before .before .before .before .loop .j) (c .before .before .before .before .before .before .before .before .before .before .before .before .before .before .before .before .before .args .t7))) (λ h. (c .before .before .before .before .before .before .before .before .before .loop .inv .2) k h) (laws.eq-or-lt k (c .before .before .before .before .before .before .before .before .before .loop .j) l))
 
 returns-5 : tie.Need-returns-5 Inv-loop μ-loop
 returns-5 c = holds (record { variable = sym (c .before .before .before .before .before .before .var-of .ensures .0) ∙ (c .before .before .before .before .before .if1 .left); count = sym (c .before .before .before .before .count-of .ensures .0) ∙ (c .before .before .before .if2 .left); child = λ k l. sym (kid-at (now (c .before .before .before .before .before .before .before .before .before .args .children)) k (c .before .before .first-of .ensures .0)) ∙ (c .before .loop .inv .1) k (omega arith); cut = λ k l. sym (cut-at (now (c .before .before .before .before .before .before .before .before .before .args .cuts)) k (c .before .before .first-of .ensures .0)) ∙ (c .before .loop .inv .2) k (omega arith) })

@@ -13,7 +13,9 @@ returns : tie.Need-returns
 returns c = dropped (c .before .before .before .before .before .before .pre .0) (c .before .before .before .before .before .before .args .v) (c .before .before .before .before .before .before .args .t7) (omega arith) _ refl
 
 hash-edges-requires : tie.Need-hash-edges-requires
-hash-edges-requires c κs = ((c .before .before .before .before .before .before .pre .1 .building), (c .before .before .before .before .before .before .pre .1 .known), cut-small (c .before .before .before .before .before .before .args .v) (c .before .before .before .before .before .before .args .t7) (c .before .before .before .before .before .before .pre .1 .reduced))
+hash-edges-requires c κs =
+    let start = c .before .before .before .before .before .before in
+    ((start .pre .1 .building), (start .pre .1 .known), cut-small (start .args .v) (start .args .t7) (start .pre .1 .reduced))
 
 find-requires : tie.Need-find-requires
 find-requires c κs = ((c .before .before .before .before .before .before .before .before .before .before .before .before .pre .0 .allowed), record { used = _; sound = (c .before .before .before .before .before .before .before .before .before .before .before .before .pre .0 .sound); buildable = (c .before .before .before .before .before .before .before .before .before .before .before .before .pre .1) }, omega (arith, (c .before .before .before .before .before .before .before .before .before .before .before .before .pre .1 .building .some)), (c .before .before .before .before .scaled .ensures .0) ∙ ap (λ (h : ℕ). h * room (c .before .before .before .before .before .before .before .before .before .before .before .before .args .nodes .now) / 4294967296) (c .before .before .before .before .before .hash-edges .ensures .0), (c .before .before .before .before .scaled .ensures .1))

@@ -4,7 +4,7 @@ use Prim.Native.Nat.{_≤_}
 use native.Mathlib.Omega.{arith}
 use lib.ListN.{length}
 use Rattle.making.specs.Outcome.{TakenBack}
-use Rattle.making.proofs.Kept.{stays-here, taken-on, taken-to}
+use Rattle.making.proofs.Kept.{stays-refl, taken-on, taken-to}
 use Rattle.making.proofs.undo.undo.Statement.{statement}
 use Rattle.making.proofs.undo.undo.Tie as tie
 use Rattle.table.specs.Layout.{store}
@@ -16,7 +16,7 @@ abbrev μ-loop : tie.MeasureT-loop
 μ-loop nodes₀ children₀ cuts₀ index₀ used now₀ nodes children cuts index now = now .nodes
 
 loop-holds : tie.Need-loop-holds Inv-loop μ-loop
-loop-holds c = (refl, refl, refl, refl, (c .before .before .before .pre .1), record { lent = (c .before .before .before .pre .0); used-is = refl; stays = stays-here })
+loop-holds c = (refl, refl, refl, refl, (c .before .before .before .pre .1), record { lent = (c .before .before .before .pre .0); used-is = refl; stays = stays-refl })
 
 pop-requires : tie.Need-pop-requires Inv-loop μ-loop
 pop-requires c κs = ((c .before .before .before .before .before .before .loop .inv .5 .lent), omega arith)

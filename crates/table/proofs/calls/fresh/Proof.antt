@@ -2,16 +2,16 @@
 use borrow.Author.Needs.{needs}
 use borrow.Author.Tests.{not-true, not-false}
 use Rattle.table.specs.Told.{freshened-1}
-use Rattle.table.proofs.Laws.{proved, refuted}
+use Rattle.table.proofs.Laws.{decided-true, decided-false}
 use Rattle.table.proofs.Hearing.{freshens-it}
 use Rattle.table.proofs.calls.fresh.Statement.{statement}
 use Rattle.table.proofs.calls.fresh.Tie as tie
 
 returns : tie.Need-returns
-returns c = freshened-1 (refuted (c .before .lengths-allowed .ensures) (not-true _ (c .if1 .taken)))
+returns c = freshened-1 (decided-false (c .before .lengths-allowed .ensures) (not-true _ (c .if1 .taken)))
 
 returns-2 : tie.Need-returns-2
-returns-2 c = freshens-it _ _ (proved (c .before .before .before .before .before .before .before .before .before .before .before .before .before .before .before .before .lengths-allowed .ensures) (not-false _ (c .before .before .before .before .before .before .before .before .before .before .before .before .before .before .before .if1 .left))) (c .before .before .before .before .before .before .before .before .before .before .before .before .before .zero-words .ensures) (c .before .before .before .before .before .before .before .before .before .zero-words2 .ensures) (c .before .before .before .before .before .zero-cuts .ensures) (c .before .before .zero-words3 .ensures)
+returns-2 c = freshens-it _ _ (decided-true (c .before .before .before .before .before .before .before .before .before .before .before .before .before .before .before .before .lengths-allowed .ensures) (not-false _ (c .before .before .before .before .before .before .before .before .before .before .before .before .before .before .before .if1 .left))) (c .before .before .before .before .before .before .before .before .before .before .before .before .before .zero-words .ensures) (c .before .before .before .before .before .before .before .before .before .zero-words2 .ensures) (c .before .before .before .before .before .zero-cuts .ensures) (c .before .before .zero-words3 .ensures)
 
 pub fresh-spec : {M : Type 1} → statement M
 fresh-spec =

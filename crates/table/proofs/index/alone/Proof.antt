@@ -28,7 +28,7 @@ same-requires : tie.Need-same-requires Inv-loop μ-loop
 same-requires c κs = let w = (c .before .loop .inv .1 .within) in (omega arith, (c .before .before .before .before .before .before .pre .0), (c .before .before .before .before .before .before .pre .1), (c .before .before .before .before .before .before .pre .3) ((c .before .loop .at) - 1) (omega arith), (c .before .before .before .before .before .before .pre .3) (c .before .before .before .before .before .before .args .n) (omega arith))
 
 returns : tie.Need-returns Inv-loop μ-loop
-returns c = let w = (c .before .before .before .loop .inv .1 .within) in fails (λ p. p ((c .before .before .before .loop .at) - 1) (omega arith) (laws.proved (c .before .same .ensures) (c .if1 .taken)))
+returns c = let w = (c .before .before .before .loop .inv .1 .within) in fails (λ p. p ((c .before .before .before .loop .at) - 1) (omega arith) (laws.decided-true (c .before .same .ensures) (c .if1 .taken)))
 
 add-word-2 : tie.Need-add-word-2 Inv-loop μ-loop
 add-word-2 c = let w = (c .before .before .before .loop .inv .1 .within) in omega arith
@@ -43,7 +43,7 @@ loop-again : tie.Need-loop-again Inv-loop μ-loop
 loop-again c = let w = (c .before .before .before .before .loop .inv .1 .within) in (
   refl,
   subst (Left (now (c .before .before .before .before .before .before .before .before .before .args .index)) (room (now (c .before .before .before .before .before .before .before .before .before .args .nodes))) (λ (k : ℕ). SameRecord (store (now (c .before .before .before .before .before .before .before .before .before .args .nodes)) (now (c .before .before .before .before .before .before .before .before .before .args .children)) (now (c .before .before .before .before .before .before .before .before .before .args .cuts))) k (c .before .before .before .before .before .before .before .before .before .args .n)) (c .before .before .before .before .before .before .before .before .before .args .n)) (sym (c .word2 .ensures .0))
-      (left-next (now (c .before .before .before .before .before .before .before .before .before .args .index)) (room (now (c .before .before .before .before .before .before .before .before .before .args .nodes))) (λ (k : ℕ). SameRecord (store (now (c .before .before .before .before .before .before .before .before .before .args .nodes)) (now (c .before .before .before .before .before .before .before .before .before .args .children)) (now (c .before .before .before .before .before .before .before .before .before .args .cuts))) k (c .before .before .before .before .before .before .before .before .before .args .n)) (c .before .before .before .before .before .before .before .before .before .args .n) {at = (c .before .before .before .before .loop .at)} (c .before .before .before .loop-test .taken) (c .before .before .before .before .loop .inv .1) ((c .before .before .before .before .before .before .before .before .before .pre .4) ((c .before .before .before .before .loop .at) - 1) (omega arith)) (laws.refuted (c .before .before .same .ensures) (c .before .if1 .left))),
+      (left-next (now (c .before .before .before .before .before .before .before .before .before .args .index)) (room (now (c .before .before .before .before .before .before .before .before .before .args .nodes))) (λ (k : ℕ). SameRecord (store (now (c .before .before .before .before .before .before .before .before .before .args .nodes)) (now (c .before .before .before .before .before .before .before .before .before .args .children)) (now (c .before .before .before .before .before .before .before .before .before .args .cuts))) k (c .before .before .before .before .before .before .before .before .before .args .n)) (c .before .before .before .before .before .before .before .before .before .args .n) {at = (c .before .before .before .before .loop .at)} (c .before .before .before .loop-test .taken) (c .before .before .before .before .loop .inv .1) ((c .before .before .before .before .before .before .before .before .before .pre .4) ((c .before .before .before .before .loop .at) - 1) (omega arith)) (laws.decided-false (c .before .before .same .ensures) (c .before .if1 .left))),
 )
 
 returns-2 : tie.Need-returns-2 Inv-loop μ-loop

@@ -19,7 +19,7 @@ loop-holds : tie.Need-loop-holds Inv-loop μ-loop
 loop-holds c = (omega arith, omega arith, sym (laws.hash-none (now (c .before .args .children)) (now (c .before .args .cuts)) (c .before .args .v) (c .before .args .e) (omega arith)))
 
 loop-again : tie.Need-loop-again Inv-loop μ-loop
-loop-again c = (omega arith, (c .mixed .ensures .1), (c .mixed .ensures .0) ∙ (laws.mixed (c .before .before .before .before .loop .inv .2) (c .before .before .child-at .ensures .0) (c .before .cut-position-at .ensures .0) ∙ sym (laws.hash-next (now (c .before .before .before .before .before .before .args .children)) (now (c .before .before .before .before .before .before .args .cuts)) (c .before .before .before .before .before .before .args .v) (c .before .before .before .before .before .before .args .e) (c .before .before .before .before .loop .j))))
+loop-again c = (omega arith, (c .mixed .ensures .1), (c .mixed .ensures .0) ∙ (laws.mix-at-equal (c .before .before .before .before .loop .inv .2) (c .before .before .child-at .ensures .0) (c .before .cut-position-at .ensures .0) ∙ sym (laws.hash-next (now (c .before .before .before .before .before .before .args .children)) (now (c .before .before .before .before .before .before .args .cuts)) (c .before .before .before .before .before .before .args .v) (c .before .before .before .before .before .before .args .e) (c .before .before .before .before .loop .j))))
 
 returns : tie.Need-returns Inv-loop μ-loop
 returns c = let e : (c .before .loop .j) ≡ (c .before .before .before .args .count) = omega arith in ((c .before .loop .inv .2) ∙ ap (hashTo (now (c .before .before .before .args .children)) (now (c .before .before .before .args .cuts)) (c .before .before .before .args .v) (c .before .before .before .args .e)) e, (c .before .loop .inv .1))

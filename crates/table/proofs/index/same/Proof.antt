@@ -17,7 +17,9 @@ same-edges-requires : tie.Need-same-edges-requires
 same-edges-requires c κs = let r = (c .before .before .before .before .before .before .before .before .before .before .pre .3) in let s = (c .before .before .before .before .before .before .before .before .before .before .pre .4) in let a = (c .before .first-of .ensures .0) in let b = (c .first-of2 .ensures .0) in let d = (c .before .before .before .before .count-of .ensures .0) in let e = (c .before .before .before .count-of2 .ensures .0) in let f = (c .before .before .if2 .left) in (omega (arith, s .most), omega (arith, r .inside), omega (arith, s .inside), (c .before .before .before .before .before .before .before .before .before .before .pre .2))
 
 returns-3 : tie.Need-returns-3
-returns-3 c = laws.to (c .same-edges .ensures) (λ q. record { variable = sym (c .before .before .before .before .before .before .before .before .var-of .ensures .0) ∙ ((c .before .before .before .before .before .before .if1 .left) ∙ (c .before .before .before .before .before .before .before .var-of2 .ensures .0)); count = sym (c .before .before .before .before .count-of2 .ensures .0) ∙ ((c .before .before .before .if2 .left) ∙ (c .before .before .before .before .before .count-of .ensures .0)); edges = laws.same-at (c .before .before .first-of .ensures .0) (c .before .first-of2 .ensures .0) (c .before .before .before .before .before .count-of .ensures .0) q }) (λ p. laws.same-at (sym (c .before .before .first-of .ensures .0)) (sym (c .before .first-of2 .ensures .0)) (sym (c .before .before .before .before .before .count-of .ensures .0)) (p .edges))
+returns-3 c =
+    let count-of· = c .before .before .before .before .before .count-of in
+    laws.to (c .same-edges .ensures) (λ q. record { variable = sym (c .before .before .before .before .before .before .before .before .var-of .ensures .0) ∙ ((c .before .before .before .before .before .before .if1 .left) ∙ (c .before .before .before .before .before .before .before .var-of2 .ensures .0)); count = sym (c .before .before .before .before .count-of2 .ensures .0) ∙ ((c .before .before .before .if2 .left) ∙ (count-of· .ensures .0)); edges = laws.same-run-at-equal (c .before .before .first-of .ensures .0) (c .before .first-of2 .ensures .0) (count-of· .ensures .0) q }) (λ p. laws.same-run-at-equal (sym (c .before .before .first-of .ensures .0)) (sym (c .before .first-of2 .ensures .0)) (sym (count-of· .ensures .0)) (p .edges))
 
 pub same-spec : {M : Type 1} → statement M
 same-spec =

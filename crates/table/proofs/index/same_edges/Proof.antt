@@ -24,10 +24,10 @@ returns : tie.Need-returns Inv-loop μ-loop
 returns c = fails (λ p. (c .if1 .taken) ((c .before .before .child-at .ensures .0) ∙ (p .child (c .before .before .before .before .loop .j) (c .before .before .before .loop-test .taken) ∙ sym (c .before .child-at2 .ensures .0))))
 
 returns-2 : tie.Need-returns-2 Inv-loop μ-loop
-returns-2 c = fails (λ p. laws.refuted (c .before .equal-at .ensures) (not-true _ (c .if2 .taken)) (p .cut (c .before .before .before .before .before .before .loop .j) (c .before .before .before .before .before .loop-test .taken)))
+returns-2 c = fails (λ p. laws.decided-false (c .before .equal-at .ensures) (not-true _ (c .if2 .taken)) (p .cut (c .before .before .before .before .before .before .loop .j) (c .before .before .before .before .before .loop-test .taken)))
 
 loop-again : tie.Need-loop-again Inv-loop μ-loop
-loop-again c = (omega arith, λ k l. ⊎-elim (λ q. rw q (sym (c .before .before .before .before .child-at .ensures .0) ∙ ((c .before .before .if1 .left) ∙ (c .before .before .before .child-at2 .ensures .0)))) (λ h. (c .before .before .before .before .before .before .loop .inv .1) k h) (laws.last k (c .before .before .before .before .before .before .loop .j) l), λ k l. ⊎-elim (λ q. rw q (laws.proved (c .before .equal-at .ensures) (not-false _ (c .if2 .left)))) (λ h. (c .before .before .before .before .before .before .loop .inv .2) k h) (laws.last k (c .before .before .before .before .before .before .loop .j) l))
+loop-again c = (omega arith, λ k l. ⊎-elim (λ q. rw q (sym (c .before .before .before .before .child-at .ensures .0) ∙ ((c .before .before .if1 .left) ∙ (c .before .before .before .child-at2 .ensures .0)))) (λ h. (c .before .before .before .before .before .before .loop .inv .1) k h) (laws.eq-or-lt k (c .before .before .before .before .before .before .loop .j) l), λ k l. ⊎-elim (λ q. rw q (laws.decided-true (c .before .equal-at .ensures) (not-false _ (c .if2 .left)))) (λ h. (c .before .before .before .before .before .before .loop .inv .2) k h) (laws.eq-or-lt k (c .before .before .before .before .before .before .loop .j) l))
 
 returns-3 : tie.Need-returns-3 Inv-loop μ-loop
 returns-3 c = holds (record { child = λ k l. (c .before .loop .inv .1) k (omega arith); cut = λ k l. (c .before .loop .inv .2) k (omega arith) })

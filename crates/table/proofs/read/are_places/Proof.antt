@@ -23,10 +23,10 @@ loop-holds : tie.Need-loop-holds Inv-loop μ-loop
 loop-holds c = (omega arith, λ k l. absurd (omega arith))
 
 returns : tie.Need-returns Inv-loop μ-loop
-returns c = fails (λ p. laws.refuted (c .before .is-place-at .ensures) (not-true _ (c .if1 .taken)) (p (c .before .before .before .loop .v) (c .before .before .loop-test .taken)))
+returns c = fails (λ p. laws.decided-false (c .before .is-place-at .ensures) (not-true _ (c .if1 .taken)) (p (c .before .before .before .loop .v) (c .before .before .loop-test .taken)))
 
 loop-again : tie.Need-loop-again Inv-loop μ-loop
-loop-again c = (omega arith, λ k l. ⊎-elim (λ q. subst (λ (i : ℕ). Place (cutAt (now (c .before .before .before .before .args .places)) i)) (sym q) (laws.proved (c .before .is-place-at .ensures) (not-false _ (c .if1 .left)))) (λ h. (c .before .before .before .loop .inv .1) k h) (laws.last k (c .before .before .before .loop .v) l))
+loop-again c = (omega arith, λ k l. ⊎-elim (λ q. subst (λ (i : ℕ). Place (cutAt (now (c .before .before .before .before .args .places)) i)) (sym q) (laws.decided-true (c .before .is-place-at .ensures) (not-false _ (c .if1 .left)))) (λ h. (c .before .before .before .loop .inv .1) k h) (laws.eq-or-lt k (c .before .before .before .loop .v) l))
 
 returns-2 : tie.Need-returns-2 Inv-loop μ-loop
 returns-2 c = holds (λ k l. (c .before .loop .inv .1) k (omega arith))

@@ -30,17 +30,17 @@ extends-requires : tie.Need-extends-requires Inv-loop μ-loop
 extends-requires c κs = ((c .before .before .before .before .before .before .before .pre), omega arith, (c .before .before .before .loop .inv .2), (c .before .before .before .loop .inv .3), (c .before .before .before .loop .inv .4))
 
 returns : tie.Need-returns Inv-loop μ-loop
-returns c = unsound (refused (store (now (c .before .before .before .before .before .before .before .before .before .args .nodes)) (now (c .before .before .before .before .before .before .before .before .before .args .children)) (now (c .before .before .before .before .before .before .before .before .before .args .cuts))) (now (c .before .before .before .before .before .before .before .before .before .args .index)) (c .before .before .before .before .before .loop .n) (c .before .before .before .before .before .loop .e) (omega arith) (c .before .before .before .before .before .loop .inv .4) (c .before .before .before .before .before .loop .inv .2) (λ z. (c .before .before .if1 .left) ((c .before .before .before .count-of .ensures .0) ∙ z)) (laws.refuted (c .before .extends .ensures) (not-true _ (c .if2 .taken))))
+returns c = unsound (refused (store (now (c .before .before .before .before .before .before .before .before .before .args .nodes)) (now (c .before .before .before .before .before .before .before .before .before .args .children)) (now (c .before .before .before .before .before .before .before .before .before .args .cuts))) (now (c .before .before .before .before .before .before .before .before .before .args .index)) (c .before .before .before .before .before .loop .n) (c .before .before .before .before .before .loop .e) (omega arith) (c .before .before .before .before .before .loop .inv .4) (c .before .before .before .before .before .loop .inv .2) (λ z. (c .before .before .if1 .left) ((c .before .before .before .count-of .ensures .0) ∙ z)) (laws.decided-false (c .before .extends .ensures) (not-true _ (c .if2 .taken))))
 
 add-e : tie.Need-add-e Inv-loop μ-loop
-add-e c = let x = laws.proved (c .before .extends .ensures) (not-false _ (c .if2 .left)) .rules .most in let y = (c .before .before .before .before .before .before .before .before .before .pre .most-edges) in omega (arith, (c .before .before .before .count-of .ensures .0), (c .before .before .before .before .before .loop .inv .3))
+add-e c = let x = laws.decided-true (c .before .extends .ensures) (not-false _ (c .if2 .left)) .rules .most in let y = (c .before .before .before .before .before .before .before .before .before .pre .most-edges) in omega (arith, (c .before .before .before .count-of .ensures .0), (c .before .before .before .before .before .loop .inv .3))
 
 add-n : tie.Need-add-n Inv-loop μ-loop
 add-n c = let y = (c .before .before .before .before .before .before .before .before .before .pre .most-nodes) in omega arith
 
 loop-again : tie.Need-loop-again Inv-loop μ-loop
-loop-again c = let x = laws.proved (c .before .extends .ensures) (not-false _ (c .if2 .left)) in let i = x .rules .inside in let p = x .rules .packed in let s = laws.start-next (now (c .before .before .before .before .before .before .before .before .before .args .nodes)) (c .before .before .before .before .before .loop .n) in let k = (c .before .before .before .count-of .ensures .0) in let a = (c .before .before .before .before .before .loop .inv .2) in
-    (refl, omega arith, omega arith, omega arith, λ m l. ⊎-elim (λ q. subst (ExtendsAt (store (now (c .before .before .before .before .before .before .before .before .before .args .nodes)) (now (c .before .before .before .before .before .before .before .before .before .args .children)) (now (c .before .before .before .before .before .before .before .before .before .args .cuts))) (now (c .before .before .before .before .before .before .before .before .before .args .index))) (sym q) x) (λ h. (c .before .before .before .before .before .loop .inv .4) m h) (laws.last m (c .before .before .before .before .before .loop .n) l))
+loop-again c = let x = laws.decided-true (c .before .extends .ensures) (not-false _ (c .if2 .left)) in let i = x .rules .inside in let p = x .rules .packed in let s = laws.start-next (now (c .before .before .before .before .before .before .before .before .before .args .nodes)) (c .before .before .before .before .before .loop .n) in let k = (c .before .before .before .count-of .ensures .0) in let a = (c .before .before .before .before .before .loop .inv .2) in
+    (refl, omega arith, omega arith, omega arith, λ m l. ⊎-elim (λ q. subst (ExtendsAt (store (now (c .before .before .before .before .before .before .before .before .before .args .nodes)) (now (c .before .before .before .before .before .before .before .before .before .args .children)) (now (c .before .before .before .before .before .before .before .before .before .args .cuts))) (now (c .before .before .before .before .before .before .before .before .before .args .index))) (sym q) x) (λ h. (c .before .before .before .before .before .loop .inv .4) m h) (laws.eq-or-lt m (c .before .before .before .before .before .loop .n) l))
 
 rest-holds-requires : tie.Need-rest-holds-requires Inv-loop μ-loop
 rest-holds-requires c κs = ((c .before .before .before .before .before .pre), omega arith, (c .before .loop .inv .3), λ m l. (c .before .loop .inv .4) m l .rules)

@@ -29,7 +29,7 @@ add-full c = omega (arith, (c .one-for .ensures .1))
 
 loop-again : tie.Need-loop-again Inv-loop μ-loop
 loop-again c = let w = (c .before .before .word .ensures .0) in let o = (c .one-for .ensures .0) in let g = ap some w in let t = laws.tally-next (λ (k : ℕ). getD (now (c .before .before .before .before .before .before .args .index)) k 0) (c .before .before .before .before .loop .i) in
-    (omega arith, omega (arith, (c .one-for .ensures .1)), omega (arith, (c .before .before .before .before .loop .inv .2)), λ k l. ⊎-elim (λ q. rw q (omega arith)) (λ h. (c .before .before .before .before .loop .inv .3) k h) (laws.last k (c .before .before .before .before .loop .i) l))
+    (omega arith, omega (arith, (c .one-for .ensures .1)), omega (arith, (c .before .before .before .before .loop .inv .2)), λ k l. ⊎-elim (λ q. rw q (omega arith)) (λ h. (c .before .before .before .before .loop .inv .3) k h) (laws.eq-or-lt k (c .before .before .before .before .loop .i) l))
 
 returns-2 : tie.Need-returns-2 Inv-loop μ-loop
 returns-2 c = let e : (c .before .before .loop .i) ≡ (c .before .before .before .before .args .n) = omega arith in holds (record { small = λ k l. (c .before .before .loop .inv .3) k (omega arith); full = sym (ap (tally (λ (k : ℕ). getD (now (c .before .before .before .before .args .index)) k 0)) e) ∙ (sym (c .before .before .loop .inv .2) ∙ (c .if2 .taken)) })

@@ -30,12 +30,12 @@ loop-again c = let o = (c .one-at .ensures) in (
   omega arith,
   omega arith,
   omega (arith, o .0),
-  λ z k a b. ⊎-elim (λ q. rw q (laws.proved (o .1) (eq-eqb (c .one-at .result) 0 (omega arith)))) (λ l. (c .before .before .loop .inv .3) (omega arith) k a l) (laws.last k (c .before .before .loop .i) b),
+  λ z k a b. ⊎-elim (λ q. rw q (laws.decided-true (o .1) (eq-eqb (c .one-at .result) 0 (omega arith)))) (λ l. (c .before .before .loop .inv .3) (omega arith) k a l) (laws.eq-or-lt k (c .before .before .loop .i) b),
   λ h. let x = (c .before .before .loop .inv .4) (λ k a b. h k a (omega arith)) in let y : (c .one-at .result) ≡ 0 = laws.yes-zero (o .1) (h (c .before .before .loop .i) (c .before .before .loop .inv .0) (omega arith)) in omega arith,
 )
 
 returns : tie.Need-returns Inv-loop μ-loop
-returns c = holds (λ k a. ⊎-elim (λ l. (c .before .before .loop .inv .3) (c .if1 .taken) k a (omega arith)) (λ g. laws.past (now (c .before .before .before .args .cuts)) (pos 0) k g) (laws.split k (length (now (c .before .before .before .args .cuts)))))
+returns c = holds (λ k a. ⊎-elim (λ l. (c .before .before .loop .inv .3) (c .if1 .taken) k a (omega arith)) (λ g. laws.past (now (c .before .before .before .args .cuts)) (pos 0) k g) (laws.lt-or-le k (length (now (c .before .before .before .args .cuts)))))
 
 returns-2 : tie.Need-returns-2 Inv-loop μ-loop
 returns-2 c = fails (λ p. (c .if1 .left) ((c .before .before .loop .inv .4) (λ k a b. p k a)))

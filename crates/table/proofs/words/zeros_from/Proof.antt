@@ -24,12 +24,12 @@ loop-again : tie.Need-loop-again Inv-loop μ-loop
 loop-again c = (
   omega arith,
   omega arith,
-  λ z. let o = laws.or-zero _ _ z in λ k a b. ⊎-elim (λ q. rw q (o .1)) (λ l. (c .before .before .loop .inv .2) (o .0) k a l) (laws.last k (c .before .before .loop .i) b),
+  λ z. let o = laws.or-zero _ _ z in λ k a b. ⊎-elim (λ q. rw q (o .1)) (λ l. (c .before .before .loop .inv .2) (o .0) k a l) (laws.eq-or-lt k (c .before .before .loop .i) b),
   λ h. laws.zero-or _ _ ((c .before .before .loop .inv .3) (λ k a b. h k a (omega arith))) (h (c .before .before .loop .i) (c .before .before .loop .inv .0) (omega arith)),
 )
 
 returns : tie.Need-returns Inv-loop μ-loop
-returns c = holds (λ k a. ⊎-elim (λ l. (c .before .before .loop .inv .2) (c .if1 .taken) k a (omega arith)) (λ g. laws.past (now (c .before .before .before .args .words)) 0 k g) (laws.split k (length (now (c .before .before .before .args .words)))))
+returns c = holds (λ k a. ⊎-elim (λ l. (c .before .before .loop .inv .2) (c .if1 .taken) k a (omega arith)) (λ g. laws.past (now (c .before .before .before .args .words)) 0 k g) (laws.lt-or-le k (length (now (c .before .before .before .args .words)))))
 
 returns-2 : tie.Need-returns-2 Inv-loop μ-loop
 returns-2 c = fails (λ p. (c .if1 .left) ((c .before .before .loop .inv .3) (λ k a b. p k a)))
