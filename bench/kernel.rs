@@ -85,11 +85,31 @@ macro_rules! side_below {
             }
             fn narrow(&mut self, x: u32, v: u32, (lower, upper): Ends) -> u32 {
                 let ((l, low), (u, high)) = (parts(lower), parts(upper));
-                below!(self, $from::below_narrow, (memo), x, v as usize, l, low, u, high)
+                below!(
+                    self,
+                    $from::below_narrow,
+                    (memo),
+                    x,
+                    v as usize,
+                    l,
+                    low,
+                    u,
+                    high
+                )
             }
             fn widen(&mut self, x: u32, v: u32, (lower, upper): Ends) -> u32 {
                 let ((l, low), (u, high)) = (parts(lower), parts(upper));
-                below!(self, $from::below_widen, (memo), x, v as usize, l, low, u, high)
+                below!(
+                    self,
+                    $from::below_widen,
+                    (memo),
+                    x,
+                    v as usize,
+                    l,
+                    low,
+                    u,
+                    high
+                )
             }
         }
     };
@@ -135,7 +155,17 @@ impl Side for Lent<Public> {
     }
     fn narrow(&mut self, x: u32, v: u32, (lower, upper): Ends) -> u32 {
         let ((l, low), (u, high)) = (parts(lower), parts(upper));
-        whole!(self, shim::spanwhistle_narrow, (memo), x, v, l, low, u, high)
+        whole!(
+            self,
+            shim::spanwhistle_narrow,
+            (memo),
+            x,
+            v,
+            l,
+            low,
+            u,
+            high
+        )
     }
     fn widen(&mut self, x: u32, v: u32, (lower, upper): Ends) -> u32 {
         let ((l, low), (u, high)) = (parts(lower), parts(upper));
