@@ -23,7 +23,7 @@ pub struct Lent<Calls> {
     calls: PhantomData<Calls>,
 }
 
-/// Kind and key of a bound, as calls.txt numbers them.
+/// Kind and key of a bound, as `spanwhistle` numbers them.
 fn parts(bound: Bound<i32>) -> (u32, i32) {
     match bound {
         Bound::Unbounded => (0, 0),
@@ -56,58 +56,41 @@ macro_rules! whole {
     }};
 }
 
-// Disjointness, below the checks and whole.
-macro_rules! below_disjoint {
-    ($lent:expr, $call:path, $x:expr, $y:expr) => {{
-        let t = &$lent.table;
-        unsafe { $call(&t.nodes, &t.children, &t.cuts, t.used, $x, $y) }
-    }};
-}
-macro_rules! whole_disjoint {
-    ($lent:expr, $call:path, $x:expr, $y:expr) => {{
-        let (t, mut yes) = (&$lent.table, false);
-        assert_eq!(0, unsafe {
-            $call(&t.nodes, &t.children, &t.cuts, &t.index, $x, $y, &mut yes)
-        });
-        yes
-    }};
-}
-
-// A side: how its calls are made, the module that has them, how a variable is passed, and their names.
-macro_rules! side {
-    ($side:ident, $way:ident, $ask:ident, $from:ident, $variable:ty, $compare:ident, $range:ident, $bool:ident, $and:ident, $or:ident,
-        $disjoint:ident, $restrict:ident, $narrow:ident, $widen:ident) => {
+// A side below the checks: the module that has its calls, and its `and` and `or`, in which alone such sides may differ.
+macro_rules! side_below {
+    ($side:ident, $from:ident, $and:ident, $or:ident) => {
         impl Side for Lent<$side> {
             fn compare(&mut self, v: u32, op: u32, key: i32) -> u32 {
-                $way!(self, $from::$compare, (), v as $variable, op, key)
+                below!(self, $from::below_compare, (), v as usize, op, key)
             }
             fn range(&mut self, v: u32, (lower, upper): Ends) -> u32 {
                 let ((l, low), (u, high)) = (parts(lower), parts(upper));
-                $way!(self, $from::$range, (), v as $variable, l, low, u, high)
+                below!(self, $from::below_range, (), v as usize, l, low, u, high)
             }
             fn boolean(&mut self, v: u32) -> u32 {
-                $way!(self, $from::$bool, (), v as $variable)
+                below!(self, $from::below_bool, (), v as usize)
             }
             fn and(&mut self, x: u32, y: u32) -> u32 {
-                $way!(self, $from::$and, (memo), x, y)
+                below!(self, $from::$and, (memo), x, y)
             }
             fn or(&mut self, x: u32, y: u32) -> u32 {
-                $way!(self, $from::$or, (memo), x, y)
+                below!(self, $from::$or, (memo), x, y)
             }
             fn is_disjoint(&mut self, x: u32, y: u32) -> bool {
-                $ask!(self, $from::$disjoint, x, y)
+                let t = &self.table;
+                unsafe { $from::below_disjoint(&t.nodes, &t.children, &t.cuts, t.used, x, y) }
             }
             fn restrict(&mut self, x: u32, v: u32, value: bool) -> u32 {
-                $way!(self, $from::$restrict, (memo), x, v as $variable, value)
+                below!(self, $from::below_restrict, (memo), x, v as usize, value)
             }
             fn narrow(&mut self, x: u32, v: u32, (lower, upper): Ends) -> u32 {
                 let ((l, low), (u, high)) = (parts(lower), parts(upper));
-                $way!(
+                below!(
                     self,
-                    $from::$narrow,
+                    $from::below_narrow,
                     (memo),
                     x,
-                    v as $variable,
+                    v as usize,
                     l,
                     low,
                     u,
@@ -116,12 +99,12 @@ macro_rules! side {
             }
             fn widen(&mut self, x: u32, v: u32, (lower, upper): Ends) -> u32 {
                 let ((l, low), (u, high)) = (parts(lower), parts(upper));
-                $way!(
+                below!(
                     self,
-                    $from::$widen,
+                    $from::below_widen,
                     (memo),
                     x,
-                    v as $variable,
+                    v as usize,
                     l,
                     low,
                     u,
@@ -132,47 +115,63 @@ macro_rules! side {
     };
 }
 
-// A side below the checks. Only its `and` and `or` may differ.
-macro_rules! side_below {
-    ($side:ident, $from:ident, $and:ident, $or:ident) => {
-        side!(
-            $side,
-            below,
-            below_disjoint,
-            $from,
-            usize,
-            below_compare,
-            below_range,
-            below_bool,
-            $and,
-            $or,
-            below_disjoint,
-            below_restrict,
-            below_narrow,
-            below_widen
-        );
-    };
-}
-
 side_below!(Below, shim, below_and, below_or);
 side_below!(Stripped, stripped, below_and, below_or);
 side_below!(Walk, shim, bare_and, bare_or);
-side!(
-    Public,
-    whole,
-    whole_disjoint,
-    shim,
-    u32,
-    lent_compare,
-    lent_range,
-    lent_bool,
-    lent_and,
-    lent_or,
-    lent_disjoint,
-    lent_restrict,
-    lent_narrow,
-    lent_widen
-);
+
+impl Side for Lent<Public> {
+    fn compare(&mut self, v: u32, op: u32, key: i32) -> u32 {
+        match op {
+            0 => whole!(self, shim::spanwhistle_equal, (), v, key),
+            1 => whole!(self, shim::spanwhistle_not_equal, (), v, key),
+            2 => whole!(self, shim::spanwhistle_less_than, (), v, key),
+            3 => whole!(self, shim::spanwhistle_less_equal, (), v, key),
+            4 => whole!(self, shim::spanwhistle_greater_than, (), v, key),
+            _ => whole!(self, shim::spanwhistle_greater_equal, (), v, key),
+        }
+    }
+    fn range(&mut self, v: u32, (lower, upper): Ends) -> u32 {
+        let ((l, low), (u, high)) = (parts(lower), parts(upper));
+        whole!(self, shim::spanwhistle_from_range, (), v, l, low, u, high)
+    }
+    fn boolean(&mut self, v: u32) -> u32 {
+        whole!(self, shim::spanwhistle_from_bool, (), v)
+    }
+    fn and(&mut self, x: u32, y: u32) -> u32 {
+        whole!(self, shim::spanwhistle_and, (memo), x, y)
+    }
+    fn or(&mut self, x: u32, y: u32) -> u32 {
+        whole!(self, shim::spanwhistle_or, (memo), x, y)
+    }
+    fn is_disjoint(&mut self, x: u32, y: u32) -> bool {
+        let (t, mut yes) = (&self.table, 0);
+        let (n, c, z, i) = (&t.nodes, &t.children, &t.cuts, &t.index);
+        let number = unsafe { shim::spanwhistle_is_disjoint(n, c, z, i, x, y, &mut yes) };
+        assert_eq!(number, 0);
+        yes == 1
+    }
+    fn restrict(&mut self, x: u32, v: u32, value: bool) -> u32 {
+        whole!(self, shim::spanwhistle_restrict, (memo), x, v, value as u32)
+    }
+    fn narrow(&mut self, x: u32, v: u32, (lower, upper): Ends) -> u32 {
+        let ((l, low), (u, high)) = (parts(lower), parts(upper));
+        whole!(
+            self,
+            shim::spanwhistle_narrow,
+            (memo),
+            x,
+            v,
+            l,
+            low,
+            u,
+            high
+        )
+    }
+    fn widen(&mut self, x: u32, v: u32, (lower, upper): Ends) -> u32 {
+        let ((l, low), (u, high)) = (parts(lower), parts(upper));
+        whole!(self, shim::spanwhistle_widen, (memo), x, v, l, low, u, high)
+    }
+}
 
 /// A side of the kernel, and the table that it goes back to.
 pub struct Kernel<Calls> {
@@ -247,10 +246,10 @@ where
     }
 
     fn holds(&self, id: u32, places: &[i64], bools: u32) -> bool {
-        let (t, mut yes) = (&self.lent.table, false);
+        let (t, mut yes) = (&self.lent.table, 0);
         let (n, c, z, i) = (&t.nodes, &t.children, &t.cuts, &t.index);
-        let number = unsafe { shim::lent_evaluate(n, c, z, i, places, bools, id, &mut yes) };
+        let number = unsafe { shim::spanwhistle_evaluate(n, c, z, i, places, bools, id, &mut yes) };
         assert_eq!(number, 0);
-        yes
+        yes == 1
     }
 }

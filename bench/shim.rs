@@ -1,4 +1,5 @@
-// What calls.txt exports, as Rust sees it. A slice goes as its address and its length, in two registers or two words of the stack.
+// What `spanwhistle` and calls.txt export, as Rust sees it. A slice goes as its address and its length, in two registers or two words of
+// the stack.
 
 // Exports of calls that write: the four slices of the table, the memo where the call is lent one (`memo`), and their own arguments
 // between what all of a kind have.
@@ -19,14 +20,19 @@ macro_rules! exports {
 }
 
 exports! {
-    public lent_compare(; v: u32, op: u32, key: i32);
-    public lent_range(; v: u32, lower: u32, low: i32, upper: u32, high: i32);
-    public lent_bool(; v: u32);
-    public lent_and(memo; x: u32, y: u32);
-    public lent_or(memo; x: u32, y: u32);
-    public lent_restrict(memo; x: u32, v: u32, value: bool);
-    public lent_narrow(memo; x: u32, v: u32, lower: u32, low: i32, upper: u32, high: i32);
-    public lent_widen(memo; x: u32, v: u32, lower: u32, low: i32, upper: u32, high: i32);
+    public spanwhistle_equal(; v: u32, key: i32);
+    public spanwhistle_not_equal(; v: u32, key: i32);
+    public spanwhistle_less_than(; v: u32, key: i32);
+    public spanwhistle_less_equal(; v: u32, key: i32);
+    public spanwhistle_greater_than(; v: u32, key: i32);
+    public spanwhistle_greater_equal(; v: u32, key: i32);
+    public spanwhistle_from_range(; v: u32, lower: u32, low: i32, upper: u32, high: i32);
+    public spanwhistle_from_bool(; v: u32);
+    public spanwhistle_and(memo; x: u32, y: u32);
+    public spanwhistle_or(memo; x: u32, y: u32);
+    public spanwhistle_restrict(memo; x: u32, v: u32, value: u32);
+    public spanwhistle_narrow(memo; x: u32, v: u32, lower: u32, low: i32, upper: u32, high: i32);
+    public spanwhistle_widen(memo; x: u32, v: u32, lower: u32, low: i32, upper: u32, high: i32);
     below below_compare(; v: usize, op: u32, key: i32);
     below below_range(; v: usize, lower: u32, low: i32, upper: u32, high: i32);
     below below_bool(; v: usize);
@@ -61,8 +67,13 @@ pub unsafe fn bare_or(
     ok
 }
 
+// `bench/run rust` times the check of the stripped source, and the others that of the archive.
+#[cfg(stripped)]
+use lent::spanwhistle::tables::spanwhistle_check;
+
 extern "C" {
-    fn lent_check(
+    #[cfg(not(stripped))]
+    fn spanwhistle_check(
         nodes: &[u32],
         children: &[u32],
         cuts: &[i64],
@@ -70,7 +81,7 @@ extern "C" {
         used: &mut usize,
         edges: &mut usize,
     ) -> u32;
-    pub fn lent_evaluate(
+    pub fn spanwhistle_evaluate(
         nodes: &[u32],
         children: &[u32],
         cuts: &[i64],
@@ -78,16 +89,16 @@ extern "C" {
         places: &[i64],
         bools: u32,
         id: u32,
-        yes: &mut bool,
+        yes: &mut u32,
     ) -> u32;
-    pub fn lent_disjoint(
+    pub fn spanwhistle_is_disjoint(
         nodes: &[u32],
         children: &[u32],
         cuts: &[i64],
         index: &[u32],
         x: u32,
         y: u32,
-        yes: &mut bool,
+        yes: &mut u32,
     ) -> u32;
     pub fn below_disjoint(
         nodes: &[u32],
@@ -107,7 +118,7 @@ pub struct Checked {
 
 pub fn check(n: &[u32], c: &[u32], z: &[i64], i: &[u32]) -> Checked {
     let (mut nodes, mut edges) = (0, 0);
-    let number = unsafe { lent_check(n, c, z, i, &mut nodes, &mut edges) };
+    let number = unsafe { spanwhistle_check(n, c, z, i, &mut nodes, &mut edges) };
     Checked {
         number,
         nodes,

@@ -48,18 +48,12 @@ macro_rules! source_side {
                 self.0.restrict_one(id, v, value).number()
             }
             fn narrow(&mut self, x: u32, v: u32, (lower, upper): Ends) -> u32 {
-                let (id, v) = ($form::NodeId::from_number(x), $form::Variable::numbered(v));
-                let (lower, upper) = (lower.as_ref(), upper.as_ref());
-                self.0
-                    .simplify_python_versions(id, &v, lower, upper)
-                    .number()
+                let id = $form::NodeId::from_number(x);
+                self.0.simplify(id, v, lower, upper).number()
             }
             fn widen(&mut self, x: u32, v: u32, (lower, upper): Ends) -> u32 {
-                let (id, v) = ($form::NodeId::from_number(x), $form::Variable::numbered(v));
-                let (lower, upper) = (lower.as_ref(), upper.as_ref());
-                self.0
-                    .complexify_python_versions(id, &v, lower, upper)
-                    .number()
+                let id = $form::NodeId::from_number(x);
+                self.0.complexify(id, v, lower, upper).number()
             }
         }
 

@@ -1,15 +1,22 @@
 #!/usr/bin/env python3
 """Says which faults the program `damage` shows. Each is put alone into a copy of crate table, and the program is run with no proof.
 
-  python3 crates/damage/faults.py        (from the repository's root; some seconds a fault)
+  python3 crates/damage/faults.py            some seconds a fault
+  python3 crates/damage/faults.py apply      only says whether each can still be put there: a moment
 
 A fault is seen when the program ends and writes something else than crates/damage/stdout, or does not end well. One that does not build,
-or whose text is not in the source any more, shows nothing, and the script fails."""
+or whose text is not in the source once, shows nothing, and the script fails."""
 import os
+import shutil
 import subprocess
 import sys
 import tempfile
 
+sys.dont_write_bytecode = True  # nothing is left beside the source
+sys.path.insert(0, os.path.join(os.path.dirname(os.path.abspath(__file__)), "../../evidence"))
+from planting import ROOT, Fault, apply_all, planted, why_not
+
+# file below crates/table/src, what stands there (once), what is put in its place
 FAULTS = [
     ("rules.rt", "if VARIABLES <= v {", "if 66 <= v {"),
     ("rules.rt", "if first != e {", "if first < e {"),
@@ -55,6 +62,12 @@ FAULTS = [
 ]
 
 
+def faults():
+    """The list above. A fault's name is its file and the change."""
+    short = lambda text: " ".join(text.split()) or "(nothing)"
+    return [Fault(f"table/{file}: {short(old)} -> {short(new)}", "table/src/" + file, old, new) for file, old, new in FAULTS]
+
+
 def tried(root):
     """None where all is as expected, else what `rt try` says first."""
     run = subprocess.run(["rt", "try", "damage"], cwd=root, capture_output=True, text=True, timeout=300)
@@ -62,29 +75,33 @@ def tried(root):
     return None if run.returncode == 0 else said[0]
 
 
+def verdict(root, fault):
+    """Whether the program shows a fault, or why that shows nothing."""
+    said = why_not(os.path.join(root, "crates"), fault)
+    if said is None:
+        with planted(os.path.join(root, "crates"), fault):
+            said = tried(root)
+    if said is None:
+        return "not seen"
+    return "seen" if said.startswith("FAIL: ") else f"SHOWS NOTHING ({said[:80]})"
+
+
 def main():
-    broken = seen = 0
+    if sys.argv[1:] == ["apply"]:
+        apply_all(faults())
+    verdicts = []
     with tempfile.TemporaryDirectory() as root:
-        subprocess.run("cp -r crates crates.txt %s" % root, shell=True, check=True)
+        shutil.copytree(os.path.join(ROOT, "crates"), os.path.join(root, "crates"))
+        shutil.copy(os.path.join(ROOT, "crates.txt"), root)
         assert tried(root) is None, "the program fails with no fault in it"
-        for name, old, new in FAULTS:
-            path = os.path.join(root, "crates/table/src", name)
-            text = open(path, encoding="utf-8").read()
-            if text.count(old) != 1:
-                said = "not in the source once"
-            else:
-                open(path, "w", encoding="utf-8").write(text.replace(old, new))
-                said = tried(root)
-                open(path, "w", encoding="utf-8").write(text)
-            if said is None:
-                verdict = "not seen"
-            elif said.startswith("FAIL: "):
-                verdict, seen = "seen", seen + 1
-            else:
-                verdict, broken = "SHOWS NOTHING (%s)" % said[:80], broken + 1
-            print("%-9s %-28s %s -> %s" % (name, verdict, old.strip().split("\n")[0], new.strip().split("\n")[0] or "(nothing)"), flush=True)
-    print(len(FAULTS), "faults,", seen, "seen,", broken, "show nothing")
-    sys.exit(1 if broken else 0)
+        for fault in faults():
+            verdicts.append(verdict(root, fault))
+            print("%-28s %s" % (verdicts[-1], fault.name), flush=True)
+    seen, unseen = verdicts.count("seen"), verdicts.count("not seen")
+    nothing = len(verdicts) - seen - unseen
+    print(len(verdicts), "faults,", seen, "seen,", nothing, "show nothing")
+    sys.exit(1 if nothing else 0)
 
 
-main()
+if __name__ == "__main__":
+    main()

@@ -2,7 +2,8 @@
 // Each function hands its slices and numbers to a call of `kernel` or `table` and writes what that answers through the caller's pointers.
 // So its contract is that call's own, with the number returned and the words written in the place of the struct, and it has no condition on
 // what is lent. What no contract here can say is left to C: that each pointer and length is right, and that no memory is lent twice.
+// `numbers` is public for the benchmark alone (`bench/calls.txt`), which takes bounds as C gives them.
 mod conditions;
-mod numbers;
+pub mod numbers;
 mod operations;
 mod tables;
