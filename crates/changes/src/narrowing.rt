@@ -54,6 +54,7 @@ pub fn narrow(
     requires { ⌜ (Lent used (store (now nodes) (now children) (now cuts)) (now index)) × (length (now memo) ≡ room (now nodes) * 3) × (Cleared (now memo)) × (KnownTo (used .nodes) (id .0)) × (v < firstBoolean) ⌝ }
     ensures { λ r. ⌜ Worked used (narrows (tableOf used (store (now (nodes .entry)) (now (children .entry)) (now (cuts .entry)))) v lower upper (id .0)) r (store (now (nodes .entry)) (now (children .entry)) (now (cuts .entry))) (now (index .entry)) (now (memo .entry)) (store (now (nodes .exit)) (now (children .exit)) (now (cuts .exit))) (now (index .exit)) (now (memo .exit)) ⌝ }
 {
+    // Open ends first: the walk would change nothing, and go through the whole diagram to find it so.
     if both_open(lower, upper) {
         return Made { ok: true, id, used };
     }
@@ -89,9 +90,11 @@ fn narrow_here(
     ensures { λ r. ⌜ Outcome used (create-node (tableOf used (store (now (nodes .entry)) (now (children .entry)) (now (cuts .entry)))) v (narrowing range (edgesOf (tableOf used (store (now (nodes .entry)) (now (children .entry)) (now (cuts .entry)))) v (id .0)))) r (store (now (nodes .entry)) (now (children .entry)) (now (cuts .entry))) (store (now (nodes .exit)) (now (children .exit)) (now (cuts .exit))) (now (index .exit)) ⌝ }
 {
     let a = view_at(nodes, id, v);
+    // A terminal, or a node of a later variable: the old answer does not change with v, whatever the bounds.
     if a.count == 1 {
         return Made { ok: true, id, used };
     }
+    // There is no nearest place: FALSE, whatever the sign of the id. Until request K3 only here, where the old answer changes with v.
     if range.is_empty() {
         return Made {
             ok: true,
@@ -136,6 +139,7 @@ pub fn narrow_from(
     while 0 < left {
         let i = turn(u, left, a.count);
         let k = cut_of(cuts, a, u, i);
+        // Under the id's sign: empty bounds may give FALSE to an id and to its opposite, so one answer is not the other flipped.
         let x = child(children, a, i);
         let m = narrow_from(
             nodes,

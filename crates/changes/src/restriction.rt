@@ -92,6 +92,7 @@ pub fn restrict_from(
             used,
         };
     }
+    // Only ids of earlier variables are looked up: the others need no walk. A change is of one id, and TRUE stands for the second.
     let s = recall(memo, nodes.len() / RECORD_WORDS, id, NodeId::TRUE);
     if s.done {
         let id = s.id;
@@ -120,6 +121,7 @@ pub fn restrict_from(
             ahead - 1,
         );
         let to = m.id;
+        // Into the slot of its edge, whichever turn it had: there are never more edges than before, so merging waits for the node.
         out.list[i] = Edge {
             cut: k,
             child: to,

@@ -28,6 +28,7 @@ pub fn turn(u: usize, left: usize, count: usize) -> usize
     if u < FIRST_BOOLEAN {
         return count - left;
     }
+    // High is edge 0 and low is edge 1: counted down, low comes first, as in the source's `map`, and new nodes get their numbers so.
     left - 1
 }
 
@@ -77,6 +78,7 @@ pub fn node_over(
         };
     }
     let rooms = nodes.len() / RECORD_WORDS;
+    // Children that differed may have become equal. They are merged here; the source does not, and gives equal conditions two ids.
     let m = create_node(nodes, children, cuts, index, used, u, es);
     if m.ok {
         let id = m.id;

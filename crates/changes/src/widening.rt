@@ -95,7 +95,9 @@ fn widen_here(
     requires { ⌜ (Lent used (store (now nodes) (now children) (now cuts)) (now index)) × (KnownTo (used .nodes) (id .0)) × (isBefore (tableOf used (store (now nodes) (now children) (now cuts))) v (id .0) ≡ false) × (v < firstBoolean) × (range .first ≤ range .last) × (range .last ≤ top) ⌝ }
     ensures { λ r. ⌜ Outcome used (create-node (tableOf used (store (now (nodes .entry)) (now (children .entry)) (now (cuts .entry)))) v (widening v range (edgesOf (tableOf used (store (now (nodes .entry)) (now (children .entry)) (now (cuts .entry)))) v (id .0)))) r (store (now (nodes .entry)) (now (children .entry)) (now (cuts .entry))) (store (now (nodes .exit)) (now (children .exit)) (now (cuts .exit))) (now (index .exit)) ⌝ }
 {
+    // An id that does not test v is one edge, and FALSE is put around it: so v comes to stand above later variables, as it must.
     let a = view_at(nodes, id, v);
+    // FALSE needs no case: its parts all agree, and merged they are one edge, of which no node is made.
     let c = clipping::widened(children, cuts, a, range);
     if !c.ok {
         return Made {
@@ -141,6 +143,7 @@ pub fn widen_from(
     while 0 < left {
         let i = turn(u, left, a.count);
         let k = cut_of(cuts, a, u, i);
+        // Under the id's sign: an id and its opposite are both FALSE outside the bounds, so one answer is not the other flipped.
         let x = child(children, a, i);
         let m = widen_from(
             nodes,

@@ -35,6 +35,7 @@ fn first_past(cuts: &[i64], a: View, lo: usize) -> usize
     ensures { λ r. ⌜ (r < a .count) × ((children : List ℕ) (v : ℕ) → v < firstBoolean → above lo (seen children (now (cuts .entry)) v a 0) ≡ seen children (now (cuts .entry)) v a r) ⌝ }
 {
     let mut i = 0;
+    // The last edge ends at END, past each position: the walk stops there at the latest.
     while cut(cuts, a, i) <= lo {
         i += 1;
     }
@@ -49,11 +50,13 @@ pub fn narrowed(children: &[u32], cuts: &[i64], a: View, range: Range) -> Edges
     let low = range.first as usize;
     let high = range.last as usize;
     let mut out = Edges::new();
+    // An edge has no left end of its own: the first that is kept begins at the lowest place, as the nearest place inside wants it.
     let mut i = first_past(cuts, a, low);
     let mut len = 0;
     let mut more = true;
     while more {
         let k = cut(cuts, a, i);
+        // Nothing is merged: edges that were neighbours still are, and they differ.
         out.list[len] = Edge {
             cut: k,
             child: child(children, a, i),
@@ -61,6 +64,7 @@ pub fn narrowed(children: &[u32], cuts: &[i64], a: View, range: Range) -> Edges
         };
         len += 1;
         i += 1;
+        // The edge that reaches past the bounds is the last, and a last edge goes on to the right end whatever its cut.
         more = k <= high;
     }
     out.len = len;
@@ -128,6 +132,8 @@ pub fn widened(children: &[u32], cuts: &[i64], a: View, range: Range) -> Clip
     let first = range.first as usize;
     let end = range.last as usize + 1;
     let mut out = Edges::new();
+    // FALSE itself, where the source negates it by the parent: here the children are seen under the id's sign. If nothing lies below the
+    // bounds, `len` is 0 and the first edge inside takes the slot.
     out.list[0] = Edge {
         cut: first,
         child: NodeId::FALSE,

@@ -83,6 +83,7 @@ fn within(
     ensures { λ r. ⌜ Creates used (create-node (tableOf used (store (now (nodes .entry)) (now (children .entry)) (now (cuts .entry)))) v (map terminal (between (range .first) (range .last) (topOf v)))) r (store (now (nodes .entry)) (now (children .entry)) (now (cuts .entry))) (now (index .entry)) (store (now (nodes .exit)) (now (children .exit)) (now (cuts .exit))) (now (index .exit)) ⌝ }
 {
     let es = edges_of(range);
+    // `settle`, and not `create_node`: no two neighbours agree, so there is nothing to merge.
     settle(nodes, children, cuts, index, used, v, es)
 }
 
@@ -121,6 +122,7 @@ pub fn from_comparison(
     let compared = ranges::spans::from_comparison(op, key);
     let range = compared.range;
     let made = within(nodes, children, cuts, index, used, v, range);
+    // Flipped only beside an answer: a refusal has FALSE, which must not become TRUE.
     if compared.outside && made.ok {
         let id = made.id;
         let used = made.used;

@@ -27,6 +27,7 @@ pub fn and(
     requires { ⌜ (Ready Entry used (store (now nodes) (now children) (now cuts)) (now index) (now memo)) × (KnownTo (used .nodes) (x .0)) × (KnownTo (used .nodes) (y .0)) ⌝ }
     ensures { λ r. ⌜ Conjoins used (conjunction (tableOf used (store (now (nodes .entry)) (now (children .entry)) (now (cuts .entry)))) (x .0) (y .0)) r (store (now (nodes .entry)) (now (children .entry)) (now (cuts .entry))) (now (index .entry)) (now (memo .entry)) (store (now (nodes .exit)) (now (children .exit)) (now (cuts .exit))) (now (index .exit)) (now (memo .exit)) ⌝ }
 {
+    // 65 for 64 variables: `ahead` stays above the variables ahead, and is not used up even at a terminal, which has none.
     let m = conjoin(
         nodes,
         children,
@@ -55,9 +56,11 @@ pub fn or(
     requires { ⌜ (Ready Entry used (store (now nodes) (now children) (now cuts)) (now index) (now memo)) × (KnownTo (used .nodes) (x .0)) × (KnownTo (used .nodes) (y .0)) ⌝ }
     ensures { λ r. ⌜ Conjoins used (disjunction (tableOf used (store (now (nodes .entry)) (now (children .entry)) (now (cuts .entry)))) (x .0) (y .0)) r (store (now (nodes .entry)) (now (children .entry)) (now (cuts .entry))) (now (index .entry)) (now (memo .entry)) (store (now (nodes .exit)) (now (children .exit)) (now (cuts .exit))) (now (index .exit)) (now (memo .exit)) ⌝ }
 {
+    // De Morgan: to negate an id is free, so that disjunction needs no walk of its own.
     let m = and(nodes, children, cuts, index, memo, used, x.not(), y.not());
     let id = m.id;
     let now = m.used;
+    // Flipped also where there was no room: `answer_of` does not look at the id then.
     Made {
         ok: m.ok,
         id: id.not(),

@@ -11,6 +11,7 @@ use walks::memo::Settled;
 pub fn opened(x: NodeId, y: NodeId) -> Settled
     ensures { λ r. ⌜ ((r .done ≡ true → opening (x .0) (y .0) ≡ some (r .id .0)) × (r .done ≡ false → opening (x .0) (y .0) ≡ none)) ⌝ }
 {
+    // The source's order, but another would do: where two of the tests hold, they answer the same.
     if x.is_true() {
         return Settled { done: true, id: y };
     }

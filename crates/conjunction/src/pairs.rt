@@ -53,15 +53,18 @@ pub fn conjoin(
         return Made { ok: true, id, used };
     }
     let rooms = nodes.len() / RECORD_WORDS;
+    // Only now the memo: x is not TRUE any more, and so an empty entry, whose first word is 0, cannot answer.
     let s = recall(memo, rooms, x, y);
     if s.done {
         let id = s.id;
         return Made { ok: true, id, used };
     }
+    // Both are nodes: where one is a terminal the opening tests have answered.
     let v = first_variable(nodes, x, y);
     let a = view_of(nodes, x, v);
     let b = view_of(nodes, y, v);
     let m = apply(nodes, children, cuts, index, memo, used, a, b, v, ahead - 1);
+    // "No room" is not remembered: it is no answer, and it ends the whole operation.
     if m.ok {
         let id = m.id;
         remember(memo, rooms, x, y, id);
@@ -90,15 +93,19 @@ fn apply(
     if v < FIRST_BOOLEAN {
         return apply_ranges(nodes, children, cuts, index, memo, used, a, b, v, ahead);
     }
+    // At least one of the two tests v, so the counts differ where only one does: there the source's `map` goes low first, and where both
+    // do its `apply` high first. New nodes get their numbers in this order, and ids are to be the source's.
     let back = a.count != b.count;
     let x = child(children, a, edge_of(a.count, back));
     let y = child(children, b, edge_of(b.count, back));
     let m = conjoin(nodes, children, cuts, index, memo, used, x, y, ahead);
+    // What was made so far stays for now: `finish` takes all of it back at once.
     if !m.ok {
         return m;
     }
     let one = m.id;
     let now = m.used;
+    // Nodes may have been added since, but used words stay: both views are still right.
     let x = child(children, a, edge_of(a.count, !back));
     let y = child(children, b, edge_of(b.count, !back));
     let m = conjoin(nodes, children, cuts, index, memo, now, x, y, ahead);
@@ -153,8 +160,10 @@ fn apply_ranges(
         let l = cut(cuts, b, j);
         let m = conjoin(nodes, children, cuts, index, memo, now, x, y, ahead);
         let id = m.id;
+        // Merged as they come: there may be 127 overlaps, and only merged edges have to fit into 64.
         let s = advance(m.ok, slot_for(len, last, id), k, l);
         let n = s.slot;
+        // A merge that is stopped writes over slot 0, and none of its edges is used.
         out.list[n] = Edge {
             cut: s.cut,
             child: id,

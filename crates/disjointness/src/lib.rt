@@ -47,9 +47,11 @@ pub fn is_disjoint(
     requires { ⌜ (Readable (store (now nodes) (now children) (now cuts)) used) × (Asked (held (store (now nodes) (now children) (now cuts)) used) used ahead (x .0)) × (Asked (held (store (now nodes) (now children) (now cuts)) used) used ahead (y .0)) ⌝ }
     ensures { λ r. ⌜ r ≡ disjoint ahead (held (store (now (nodes .entry)) (now (children .entry)) (now (cuts .entry))) used) (x .0) (y .0) ⌝ }
 {
+    // First, for the sake of FALSE: it is equal to itself, and disjoint with itself all the same.
     if opposed(x, y) {
         return true;
     }
+    // Neither is FALSE any more, and no other id of a sound table is false under every reading: so these two meet.
     if agreeing(x, y) {
         return false;
     }
@@ -89,6 +91,7 @@ fn ranges_disjoint(
                 break 'left;
             }
             let l = cut(cuts, b, j);
+            // The left edge ends first: this right one overlaps the next left edge too, so j stays.
             if k < l {
                 break;
             }
@@ -115,6 +118,7 @@ fn booleans_disjoint(
     requires { ⌜ (Readable (store (now nodes) (now children) (now cuts)) used) × (Sides (store (now nodes) (now children) (now cuts)) used firstBoolean ahead a b) × (a .count ≤ 2) × (b .count ≤ 2) ⌝ }
     ensures { λ r. ⌜ r ≡ apart ahead (held (store (now (nodes .entry)) (now (children .entry)) (now (cuts .entry))) used) (seen (now (children .entry)) (now (cuts .entry)) firstBoolean a 0) (seen (now (children .entry)) (now (cuts .entry)) firstBoolean b 0) ⌝ }
 {
+    // High before low, as in the source. Nothing is made here, so no id depends on it.
     let x = child(children, a, 0);
     let y = child(children, b, 0);
     if !is_disjoint(nodes, children, cuts, used, x, y, ahead) {

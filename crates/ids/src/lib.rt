@@ -43,6 +43,7 @@ impl NodeId {
         ensures { λ r. ⌜ r ≡ indexOf used (self .0) ⌝ }
     {
         let at = self.0 / 2;
+        // Half an id is one more than its node's number. Both terminals have half 0, and are told apart before 1 is taken away.
         if at == 0 {
             return Index::Terminal;
         }

@@ -39,6 +39,7 @@ pub fn admit(nodes: &[u32], children: &[u32], cuts: &[i64], index: &[u32], kind:
             used,
         };
     }
+    // After the table, though it costs less: the checks go by their numbers.
     if !kind {
         return Admission {
             number: WRONG_VARIABLE,
@@ -62,12 +63,14 @@ pub fn admit_ids(
 ) -> Admission
     ensures { λ r. ⌜ AdmitsIds (store (now (nodes .entry)) (now (children .entry)) (now (cuts .entry))) (now (index .entry)) memo (x .0) (y .0) kind (r .number) (r .used) ⌝ }
 {
+    // A length is refusal 1, and so comes before the table (2). If the length of `nodes` is wrong too, it is 1 either way.
     if memo != nodes.len() / RECORD_WORDS * MEMO_WORDS {
         return Admission {
             number: WRONG_ROOM,
             used: Used { nodes: 0, edges: 0 },
         };
     }
+    // Not the kind yet: ids (3) come before it (4).
     let a = admit(nodes, children, cuts, index, true);
     if a.number != DONE {
         return a;

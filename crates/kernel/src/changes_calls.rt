@@ -36,8 +36,10 @@ pub fn restrict(
         return refused(a.number);
     }
     let used = a.used;
+    // Only after the checks, since refusals 1 to 4 leave the memo as found.
     zero_words(memo);
     let m = restriction::restrict(nodes, children, cuts, index, memo, used, id, wide(v), value);
+    // Again, and after "no room" too: entries may then name nodes that were taken back.
     zero_words(memo);
     answer_of(m)
 }

@@ -28,6 +28,7 @@ pub fn and(
         return refused(a.number);
     }
     let used = a.used;
+    // Cleared at both ends: what was lent is never believed, and what was worked out is left to nobody.
     zero_words(memo);
     let m = joins::and(nodes, children, cuts, index, memo, used, x, y);
     zero_words(memo);

@@ -50,6 +50,7 @@ pub fn pair_of(high: NodeId, low: NodeId) -> Edges
     ensures { λ r. ⌜ (Building r) × (piecesOf r ≡ merge (cut (high .0) 1 (last (low .0)))) ⌝ }
 {
     let mut out = Edges::new();
+    // A boolean has two positions, 0 for yes and 1 for no, so the high edge ends before 1. No cut of a boolean is stored.
     out.list[0] = Edge {
         cut: 1,
         child: high,
@@ -72,10 +73,12 @@ pub fn pair_of(high: NodeId, low: NodeId) -> Edges
 pub fn slot_for(len: usize, last: NodeId, id: NodeId) -> usize
     ensures { λ r. ⌜ (0 < len → last .0 ≡ id .0 → r ≡ len - 1) × ((0 < len → last .0 ≡ id .0 → ⊥) → r ≡ len) ⌝ }
 {
+    // Before the first edge `last` is only a filler, and nothing may be merged with it.
     if len == 0 {
         return 0;
     }
     if last.0 == id.0 {
+        // Its slot is taken again: with the cut of the new edge the last one reaches as far as both.
         return len - 1;
     }
     len
@@ -149,6 +152,7 @@ pub fn hash_edges(v: usize, lead: NodeId, es: Edges) -> usize
     let mut j = 0;
     while j < n {
         let e = es.list[j];
+        // As it would be stored, so that a node and its flipped twin have one hash, and are looked for in one bucket.
         let c = e.child.negate(lead);
         h = mixed(h, wide(c.0), key_of(v, j, n, e.cut));
         j += 1;

@@ -59,6 +59,7 @@ fn same_node(
     ensures { λ r. ⌜ Decides (Matches (store (now (nodes .entry)) (now (children .entry)) (now (cuts .entry))) n v (sign (lead .0)) es) r ⌝ }
 {
     let count = es.len;
+    // Two words first, and up to 64 edges only where these agree (what request K5 asks for).
     if var_of(nodes, n) != v {
         return false;
     }
@@ -73,6 +74,7 @@ fn same_node(
         if child_at(children, first + j) != wide(c.0) {
             return false;
         }
+        // By `key_of`, since the last edge of a node under construction may have any cut, where the table has 0.
         if cut_position_at(cuts, first + j) != key_of(v, j, count, e.cut) {
             return false;
         }
@@ -97,6 +99,7 @@ pub fn find(
 {
     let rooms = nodes.len() / RECORD_WORDS;
     let mut at = word(index, bucket);
+    // Links fall, so the walk ends. The first match is the answer, since a sound table has no twins.
     while 0 < at {
         if same_node(nodes, children, cuts, at - 1, v, lead, es) {
             return at;
@@ -115,6 +118,7 @@ fn put_edges(children: &mut [u32], cuts: &mut [i64], e: usize, v: usize, lead: N
     let mut j = 0;
     while j < count {
         let edge = es.list[j];
+        // Here the flip is made: seen under the sign of the first child, the first child itself is plain.
         let c = edge.child.negate(lead);
         children[e + j] = c.0;
         let z = stored_cut(v, j, count, edge.cut);
@@ -155,6 +159,7 @@ fn add(
     let before = index[bucket];
     put_edges(children, cuts, e, v, lead, es);
     put_record(nodes, n, v as u32, count as u32, e as u32);
+    // In front of its bucket, with the node that stood there as its link: so links fall, and two words of the index take it back.
     index[rooms + n] = before;
     index[bucket] = n as u32 + 1;
     Used {
@@ -200,6 +205,7 @@ pub fn extend(
         };
     }
     let next = add(nodes, children, cuts, index, used, v, lead, es, bucket);
+    // Its number is one less than the nodes now used. Where the flipped node was stored, the id gets the sign that the node lost.
     Made {
         ok: true,
         id: NodeId(next.nodes as u32 * 2).negate(lead),
@@ -231,9 +237,10 @@ pub fn settle(
             used,
         };
     }
-    // "Flip if the first child is complemented": no flipped copy is made. The node is hashed, compared and stored with each child seen
-    // under the sign of the first, and its id gets that sign.
+    // "Flip if the first child is complemented", since a node and its flipped twin would be two ids for one condition. No copy is made:
+    // the node is hashed, compared and stored with each child seen under the sign of the first, and its id gets that sign.
     let bucket = scaled(hash_edges(v, lead, es), nodes.len() / RECORD_WORDS);
+    // Looked for before room is asked for: a full table still answers with the nodes that it has (C16).
     let at = find(nodes, children, cuts, index, v, lead, es, bucket);
     if 0 < at {
         return Made {

@@ -43,6 +43,7 @@ fn pop(
     let n = used.nodes - 1;
     let count = count_of(nodes, n);
     let e = first_of(nodes, n);
+    // Worked out before the words are blanked, since no record stores its bucket.
     let bucket = scaled(hash_of(children, cuts, var_of(nodes, n), e, count), rooms);
     let before = index[rooms + n];
     index[bucket] = before;
@@ -65,6 +66,7 @@ pub fn undo(
     ensures { λ r. ⌜ TakenBack keep used (store (now (nodes .entry)) (now (children .entry)) (now (cuts .entry))) r (store (now (nodes .exit)) (now (children .exit)) (now (cuts .exit))) (now (index .exit)) ⌝ }
 {
     let mut now = used;
+    // Newest first: each is then in front of its bucket and its edges are the last ones, when its turn comes.
     while keep < now.nodes {
         now = pop(nodes, children, cuts, index, now);
     }

@@ -29,6 +29,7 @@ pub enum Comparison {
 pub fn first_of(lower: Bound) -> u64
     ensures { λ r. ⌜ r ≡ position (firstPlace lower) ⌝ }
 {
+    // The highest key has a place above it: to exclude it leaves that one, and the sum stays on the line.
     match lower {
         Bound::Open => 0,
         Bound::Includes(v) => position_of_key(v),

@@ -35,6 +35,7 @@ pub fn place_at(position: u64) -> i64
 pub fn position_of_key(key: i32) -> u64
     ensures { λ r. ⌜ r ≡ position (exactly key) ⌝ }
 {
+    // Widened first: twice a key need not fit into an `i32`.
     let wide = key as i64;
     (wide + wide - LOWEST) as u64
 }

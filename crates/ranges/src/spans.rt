@@ -54,6 +54,7 @@ impl Range {
     pub fn intersection(self, other: Range) -> Range
         ensures { λ r. ⌜ Both self other r ⌝ }
     {
+        // Ranges that do not meet need no case: the ends then cross, and crossed ends are an empty range.
         let mut first = self.first;
         if first < other.first {
             first = other.first;
@@ -87,6 +88,7 @@ impl Range {
     pub fn can_conjoin(self, next: Range) -> bool
         ensures { λ r. ⌜ r ≡ neighbours self next ⌝ }
     {
+        // The ends of an empty range may fit, but it goes on nowhere. And nothing ends before position 0: 1 cannot be taken from it.
         if self.is_empty() || next.is_empty() || next.first == 0 {
             return false;
         }
@@ -126,6 +128,7 @@ pub fn from_comparison(op: Comparison, key: i32) -> Compared
 {
     match op {
         Comparison::Equal => inside(Bound::Includes(key), Bound::Includes(key)),
+        // One range, meant outside: around a key there are two parts, and to negate an id is free.
         Comparison::NotEqual => Compared {
             range: Range::from_bounds(Bound::Includes(key), Bound::Includes(key)),
             outside: true,

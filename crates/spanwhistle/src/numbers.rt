@@ -13,6 +13,7 @@ pub fn bound_of(kind: u32, key: i32) -> Bound
     if kind == 1 {
         return Bound::Includes(key);
     }
+    // 2 and all above it: document 01 has no refusal for a kind that does not exist, so every number is one.
     Bound::Excludes(key)
 }
 

@@ -81,6 +81,7 @@ pub extern "C" fn spanwhistle_restrict(
 ) -> u32
     ensures { λ r. ⌜ Restricts (store (now (nodes .entry)) (now (children .entry)) (now (cuts .entry))) (now (index .entry)) (now (memo .entry)) x variable (isYes value) r (now (id .exit)) (store (now (nodes .exit)) (now (children .exit)) (now (cuts .exit))) (now (index .exit)) (now (memo .exit)) ⌝ }
 {
+    // Any number is taken: a `bool` from C might have bits that are neither yes nor no, and there is no refusal for those.
     let yes = value != 0;
     let a = changes_calls::restrict(nodes, children, cuts, index, memo, NodeId(x), variable, yes);
     *id = a.id.0;

@@ -71,6 +71,7 @@ pub fn evaluate(
 ) -> Told
     ensures { λ r. ⌜ Hears (store (now (nodes .entry)) (now (children .entry)) (now (cuts .entry))) (now (index .entry)) (now (places .entry)) bools (id .0) (r .number) (r .yes) ⌝ }
 {
+    // A length too, and so refusal 1: it has to come before the check of the table, which may find 2.
     if places.len() != FIRST_BOOLEAN {
         return Told {
             number: WRONG_ROOM,
@@ -90,6 +91,7 @@ pub fn evaluate(
             yes: false,
         };
     }
+    // All 32, whether the id tests them or not: a refusal depends on what was lent, and not on the way down.
     if !are_places(places) {
         return Told {
             number: BEYOND_PLACES,

@@ -22,6 +22,7 @@ pub fn mixed(h: usize, c: usize, k: usize) -> usize
     requires { ⌜ (h < 4294967296) × (c < 4294967296) × (k < 8589934593) ⌝ }
     ensures { λ r. ⌜ (r ≡ mix h c k) × (r < 4294967296) ⌝ }
 {
+    // In 64 bits nothing wraps before the remainder: the factors are below 2^31 and 2^30, what they multiply below 2^32.
     (h * 1640531527 + c * 805459861 + k) % 4294967296
 }
 
@@ -46,6 +47,7 @@ pub fn scaled(h: usize, rooms: usize) -> usize
     requires { ⌜ (h < 4294967296) × (1 ≤ rooms) × (rooms ≤ mostNodes) ⌝ }
     ensures { λ r. ⌜ (r ≡ h * rooms / 4294967296) × (r < rooms) ⌝ }
 {
+    // Not taken modulo the room: so the only division is by a power of two, and buckets fill evenly.
     h * rooms / 4294967296
 }
 
@@ -57,6 +59,7 @@ pub fn leads(index: &[u32], rooms: usize, x: usize, y: usize) -> bool
     let mut at = x;
     while y < at {
         let next = word(index, rooms + (at - 1));
+        // In a sound index links fall. To refuse one that does not is also what ends the walk, whatever was lent.
         if at <= next {
             return false;
         }
@@ -109,6 +112,7 @@ pub fn alone(nodes: &[u32], children: &[u32], cuts: &[i64], index: &[u32], n: us
     ensures { λ r. ⌜ Decides ((m : ℕ) → m < n → SameRecord (store (now (nodes .entry)) (now (children .entry)) (now (cuts .entry))) m n → ⊥) r ⌝ }
 {
     let rooms = nodes.len() / RECORD_WORDS;
+    // From the link of n on, for the bucket's word names n or a later node. These links were seen to fall when their records were checked.
     let mut at = word(index, rooms + n);
     while 0 < at {
         if same(nodes, children, cuts, at - 1, n) {

@@ -54,6 +54,7 @@ pub fn next_of(
     let first = first_of(nodes, n);
     if v < FIRST_BOOLEAN {
         let count = count_of(nodes, n);
+        // A place is read as a cut is. The lowest place is no cut, but the 0 that it gets for that is its very position.
         let p = cut_position_at(places, v);
         return choose(children, cuts, first, count, p);
     }
@@ -80,6 +81,7 @@ pub fn reads(
     let mut at = id;
     while 2 <= at.0 {
         let c = next_of(nodes, children, cuts, places, bools, wide(at.0) / 2 - 1);
+        // A child is stored as its plain parent sees it. So the sign goes down with the walk, and the terminal gets that of the whole path.
         at = NodeId(c as u32).negate(at);
     }
     at.is_true()

@@ -29,6 +29,7 @@ pub fn var_below(nodes: &[u32], at: usize) -> usize
     requires { ⌜ (at * 4 ≤ length (now nodes)) × (4 ≤ length (now nodes)) ⌝ }
     ensures { λ r. ⌜ (at ≡ 0 → variables ≤ r) × (0 < at → r ≡ varAt (now (nodes .entry)) (at - 1)) ⌝ }
 {
+    // For the terminal record 0 is read, which every room has, whatever it holds: with 64 added it is past all variables.
     let full = one_for(at);
     var_of(nodes, at - full) + (1 - full) * VARIABLES
 }
@@ -39,6 +40,7 @@ pub fn child_stands(nodes: &[u32], n: usize, v: usize, c: usize) -> bool
     ensures { λ r. ⌜ Decides (Stands (now (nodes .entry)) n v c) r ⌝ }
 {
     let at = c / 2;
+    // `at` is one more than the child's number, or 0 for a terminal. An earlier node's record was checked already, and may be read.
     if n < at {
         return false;
     }
@@ -118,6 +120,7 @@ pub fn pass(
         return Seen { ok: false, hash: 0 };
     }
     let mut h = v;
+    // A number that is no cut has position 0, so the test for rising cuts refuses it as well.
     let mut low: usize = 0;
     let mut j = 0;
     while j < end {
@@ -132,11 +135,13 @@ pub fn pass(
         if !child_stands(nodes, n, v, c) {
             return Seen { ok: false, hash: 0 };
         }
+        // Edge j is `last` up to this cut; `c` is the next edge's child. Hashed on the way, each word of an edge is read once.
         h = mixed(h, last, k);
         low = k;
         last = c;
         j += 1;
     }
+    // A word without a meaning is 0 all the same: so the rooms and the nodes of a table decide every word of it.
     if !blank_at(cuts, e + end) {
         return Seen { ok: false, hash: 0 };
     }
@@ -173,6 +178,7 @@ pub fn rules_hold(nodes: &[u32], children: &[u32], cuts: &[i64], n: usize, e: us
     let v = var_of(nodes, n);
     let count = count_of(nodes, n);
     let first = first_of(nodes, n);
+    // No bullet of document 01 says this, but the record would be a node of no variable.
     if VARIABLES <= v {
         return Seen { ok: false, hash: 0 };
     }
@@ -182,6 +188,7 @@ pub fn rules_hold(nodes: &[u32], children: &[u32], cuts: &[i64], n: usize, e: us
     if MOST_EDGES < count {
         return Seen { ok: false, hash: 0 };
     }
+    // The counts before this record decide the word; it is stored so that no reader has to add them up.
     if first != e {
         return Seen { ok: false, hash: 0 };
     }
@@ -191,6 +198,7 @@ pub fn rules_hold(nodes: &[u32], children: &[u32], cuts: &[i64], n: usize, e: us
     if spare_of(nodes, n) != 0 {
         return Seen { ok: false, hash: 0 };
     }
+    // A node with every child negated says the opposite: were both allowed, one condition would have two ids.
     if child_at(children, e) % 2 != 0 {
         return Seen { ok: false, hash: 0 };
     }

@@ -43,6 +43,7 @@ pub fn extends(
     let rooms = nodes.len() / RECORD_WORDS;
     let b = scaled(seen.hash, rooms);
     let next = word(index, rooms + n);
+    // A link names an earlier node, or none: so chains fall, and every walk along one ends.
     if n < next {
         return false;
     }
@@ -50,9 +51,11 @@ pub fn extends(
     if rooms < head {
         return false;
     }
+    // The bucket's word is for the last node in it, which may come after n: the walk goes down from there, and has to meet n.
     if !leads(index, rooms, head, n + 1) {
         return false;
     }
+    // Last, since it looks for twins along the links alone: these are now known to lead through every earlier node of the bucket.
     alone(nodes, children, cuts, index, n)
 }
 
@@ -68,6 +71,7 @@ pub fn tallies(index: &[u32], n: usize, u: usize) -> bool
         if u < x {
             return false;
         }
+        // One word names each node: its bucket's, or the link of the next node in its bucket. A word too many shows in the count.
         full += one_for(x);
         i += 1;
     }
@@ -115,6 +119,7 @@ pub fn judge(nodes: &[u32], children: &[u32], cuts: &[i64], index: &[u32]) -> Ju
     let mut e = 0;
     while n < rooms {
         let count = count_of(nodes, n);
+        // No count of nodes is lent, so none can be wrong: the first record without edges ends them.
         if count == 0 {
             break;
         }

@@ -70,12 +70,14 @@ pub fn word(words: &[u32], i: usize) -> usize
 pub fn cut_position(z: i64) -> usize
     ensures { λ r. ⌜ (r ≡ cutPosition z) × (r < 8589934593) ⌝ }
 {
+    // The lowest place is the one place that is no cut, so its position, 0, is free to mean that there is none.
     if z < LOWEST_CUT {
         return 0;
     }
     if HIGHEST < z {
         return 0;
     }
+    // Only now that it lies between the ends: for any other lent number the difference might overflow.
     let d = z - LOWEST;
     d as usize
 }
@@ -156,6 +158,7 @@ pub fn zeros_from(words: &[u32], from: usize) -> bool
 {
     let mut all: u32 = 0;
     let mut i = from;
+    // To stop early would only make a refusal quicker: a sound table has to be read to its end anyway.
     while i < words.len() {
         all |= words[i];
         i += 1;

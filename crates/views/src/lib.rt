@@ -41,6 +41,7 @@ pub fn first_variable(nodes: &[u32], x: NodeId, y: NodeId) -> usize
 {
     let v = variable(nodes, x);
     let w = variable(nodes, y);
+    // The earlier one, so that a node of it may stand above whatever the two become below it.
     if v < w {
         return v;
     }
@@ -52,6 +53,7 @@ pub fn is_before(nodes: &[u32], id: NodeId, v: usize) -> bool
     requires { ⌜ ref (id .0) * 4 ≤ length (now nodes) ⌝ }
     ensures { λ r. ⌜ r ≡ (ltb 1 (id .0) && ltb (varAt (now (nodes .entry)) (ref (id .0) - 1)) v) ⌝ }
 {
+    // Terminals first: they have no record to read a variable from.
     1 < id.0 && variable(nodes, id) < v
 }
 
@@ -61,6 +63,8 @@ pub fn view_of(nodes: &[u32], id: NodeId, v: usize) -> View
     ensures { λ r. ⌜ Sees (now (nodes .entry)) v (id .0) r ⌝ }
 {
     let n = wide(id.0) / 2 - 1;
+    // No caller asks past the id's own variable, so the id says the same wherever v is: seen as one edge to itself it is merged like any
+    // other side, and the source's `map` needs no walk of its own. No node has one edge, so count 1 means nothing else.
     if var_of(nodes, n) != v {
         return View {
             first: 0,
@@ -96,6 +100,7 @@ pub fn child(children: &[u32], w: View, j: usize) -> NodeId
     ensures { λ r. ⌜ r .0 ≡ childSeen (now (children .entry)) w j ⌝ }
 {
     let id = w.id;
+    // Not negated: the sign is in the id already.
     if w.count == 1 {
         return id;
     }
@@ -112,6 +117,7 @@ pub fn cut(cuts: &[i64], w: View, j: usize) -> usize
     if j + 1 < w.count {
         return cut_position_at(cuts, first + j);
     }
+    // The 0 that is stored beside a last edge is no cut. END is past each position, so that this edge takes whatever is left.
     END
 }
 

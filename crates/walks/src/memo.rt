@@ -22,6 +22,7 @@ fn slot_of(x: NodeId, y: NodeId, rooms: usize) -> usize
     requires { ⌜ (1 ≤ rooms) × (rooms ≤ mostNodes) ⌝ }
     ensures { λ r. ⌜ r < rooms ⌝ }
 {
+    // The slot matters for speed alone: an entry names its pair in full, so any slot would be right.
     scaled(mixed(wide(x.0), wide(y.0), 0), rooms)
 }
 
@@ -31,6 +32,7 @@ pub fn recall(memo: &[u32], rooms: usize, x: NodeId, y: NodeId) -> Settled
     ensures { λ r. ⌜ (r .done ≡ true → Hit (now (memo .entry)) (x .0) (y .0) (r .id .0)) ⌝ }
 {
     let at = slot_of(x, y, rooms) * MEMO_WORDS;
+    // No caller asks with TRUE as x, which needs no walk: so an entry with 0 in its first word is empty, and answers nobody.
     if memo[at] == x.0 {
         if memo[at + 1] == y.0 {
             return Settled {
@@ -50,6 +52,7 @@ pub fn remember(memo: &mut [u32], rooms: usize, x: NodeId, y: NodeId, id: NodeId
     requires { ⌜ (1 ≤ rooms) × (rooms ≤ mostNodes) × (length (now memo) ≡ rooms * 3) ⌝ }
     ensures { λ _. ⌜ Overwritten (now (memo .entry)) (x .0) (y .0) (id .0) (now (memo .exit)) ⌝ }
 {
+    // A pair that loses its slot costs time alone: worked out again, its nodes are found and none is added.
     let at = slot_of(x, y, rooms) * MEMO_WORDS;
     memo[at] = x.0;
     memo[at + 1] = y.0;

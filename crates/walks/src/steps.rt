@@ -35,9 +35,11 @@ pub fn advance(ok: bool, slot: usize, k: usize, l: usize) -> Step
     if !ok {
         return Step::STOPPED;
     }
+    // Exact, though the merge is not done: edges are merged as they come, so their number never falls.
     if MOST_EDGES <= slot {
         return Step::STOPPED;
     }
+    // The nearer cut ends the overlap, and its side goes on; the edge of the other side reaches into the next overlap.
     if k < l {
         return Step {
             ok: true,
@@ -58,6 +60,7 @@ pub fn advance(ok: bool, slot: usize, k: usize, l: usize) -> Step
             right: 1,
         };
     }
+    // Both edges end here. END is the cut of last edges alone, so there both sides are through.
     Step {
         ok: true,
         more: k < END,
