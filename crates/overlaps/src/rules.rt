@@ -13,6 +13,7 @@ use super::text::next_word;
 use super::text::reads;
 use ids::NodeId;
 use kernel::answers::Answer;
+use kernel::answers::NO_ROOM;
 use kernel::conditions_calls::from_bool;
 use kernel::conditions_calls::from_comparison;
 use kernel::joins_calls::and;
@@ -49,10 +50,19 @@ fn stopped(at: usize, fault: Fault) -> Partial {
     }
 }
 
+// A refusal of the kernel.
+fn refusal(number: u32) -> Fault {
+    if number == NO_ROOM {
+        return Fault::NoRoom;
+    }
+    Fault::Refused(number)
+}
+
 // The kernel's answer for what the terms since the last `or` say together, up to position `at`; a refusal is shown where `from` is.
 fn answered(from: usize, at: usize, a: Answer, any: NodeId) -> Partial {
     if a.number != DONE {
-        return stopped(from, Fault::Refused(a.number));
+        let fault = refusal(a.number);
+        return stopped(from, fault);
     }
     let all = a.id;
     Partial {
@@ -172,7 +182,8 @@ fn join(
     let y = c.all;
     let a = or(nodes, children, cuts, index, memo, x, y);
     if a.number != DONE {
-        return stopped(w.start, Fault::Refused(a.number));
+        let fault = refusal(a.number);
+        return stopped(w.start, fault);
     }
     let any = a.id;
     Partial {

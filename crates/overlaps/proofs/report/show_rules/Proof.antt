@@ -1,32 +1,23 @@
--- `overlaps::report::show_rules` ends: the number of rules shown is at most 64. Assumes nothing.
+-- `overlaps::report::show_rules` ends: the number of rules looked at is at most 256. Assumes nothing.
 use Prim.Native.Nat.{_-_, _≤_}
 use borrow.Author.Needs.{needs}
 use Rattle.overlaps.proofs.report.show_rules.Statement.{statement}
 use Rattle.overlaps.proofs.report.show_rules.Tie as tie
 
 abbrev Inv-loop : tie.InvT-loop
-Inv-loop text s i₀ i = i ≤ 64
+Inv-loop text rules s listing i₀ i = i ≤ 256
 
 abbrev μ-loop : tie.MeasureT-loop
-μ-loop text s i₀ i = 64 - i
-
-slice-aggregate-column : tie.Need-slice-aggregate-column Inv-loop μ-loop
-slice-aggregate-column c = search needs
-
-column-requires : tie.Need-column-requires Inv-loop μ-loop
-column-requires c κs = search needs
-
-slice-aggregate-text : tie.Need-slice-aggregate-text Inv-loop μ-loop
-slice-aggregate-text c = search needs
-
-text-requires : tie.Need-text-requires Inv-loop μ-loop
-text-requires c κs = search needs
+μ-loop text rules s listing i₀ i = 256 - i
 
 loop-holds : tie.Need-loop-holds Inv-loop μ-loop
 loop-holds c = search needs
 
 show-rule-requires : tie.Need-show-rule-requires Inv-loop μ-loop
 show-rule-requires c κs = search needs
+
+show-constant-requires : tie.Need-show-constant-requires Inv-loop μ-loop
+show-constant-requires c κs = search needs
 
 add-i : tie.Need-add-i Inv-loop μ-loop
 add-i c = search needs
@@ -46,12 +37,9 @@ show-rules-spec =
     (tie.spec
     Inv-loop
     μ-loop
-    slice-aggregate-column
-    column-requires
-    slice-aggregate-text
-    text-requires
     loop-holds
     show-rule-requires
+    show-constant-requires
     add-i
     loop-less
     loop-again
