@@ -135,9 +135,22 @@ fn written_short() {
             "refusal 6: there is no room for the answer",
         ),
     ];
+    let header = include_str!("../../include/spanwhistle.h");
     for (refusal, text) in words {
         assert_eq!(refusal.to_string(), text);
+        assert!(header.contains(&format!("\"{text}\"")), "in C: {text}");
     }
+}
+
+/// The crate and the header that it declares have one version.
+#[test]
+fn one_version() {
+    let header = include_str!("../../include/spanwhistle.h");
+    let line = format!(
+        "#define SPANWHISTLE_VERSION {:?}\n",
+        env!("CARGO_PKG_VERSION")
+    );
+    assert!(header.contains(&line), "{line}");
 }
 
 #[cfg(feature = "std")]

@@ -24,30 +24,42 @@ fn show_plain(text: &[u8], at: usize, end: usize) {
     }
 }
 
-// Says what stands at a position that has a byte outside ASCII. Letters of European scripts, which have two bytes in UTF-8, and signs of
-// mathematics, which have three, are shown as they stand; a terminal might do anything at others. All are named by their bytes.
-pub fn show_far(text: &[u8], at: usize) {
-    let a = byte_at(text, at);
-    let b = byte_at(text, wrapping_add_usize(at, 1));
-    let c = byte_at(text, wrapping_add_usize(at, 2));
+// The three that come from an editor and cannot be seen, in words. Whether it was one.
+fn show_hidden(first: bool, a: u8, b: u8, c: u8) -> bool {
     if a == 239 && b == 187 && c == 191 {
-        show::text(b"a byte order mark stands here (bytes ef bb bf): save the file without it");
-        return;
+        show::text(b"a byte order mark stands here ");
+        return true;
     }
-    if a >= 254 && at == 0 {
-        show::text(b"a byte order mark of UTF-16 stands here: save the file as plain text");
-        return;
+    if a >= 254 && first {
+        show::text(b"a byte order mark of UTF-16 stands here ");
+        return true;
     }
     if a == 194 && b == 160 {
-        show::text(b"a no-break space stands here (bytes c2 a0): put a blank in its place");
-        return;
+        show::text(b"a no-break space stands here ");
+        return true;
     }
+    false
+}
+
+// Letters of European scripts, which have two bytes in UTF-8, and signs of mathematics, which have three, are shown as they stand; a terminal
+// might do anything at others.
+fn show_letter(text: &[u8], at: usize, a: u8, b: u8, c: u8) {
     show::text(b"a character outside ASCII stands here: ");
     if a >= 194 && a < 214 && goes_on(b) && (a > 194 || b > 160) {
         show_plain(text, at, wrapping_add_usize(at, 2));
     }
     if a == 226 && b >= 136 && b < 140 && goes_on(c) {
         show_plain(text, at, wrapping_add_usize(at, 3));
+    }
+}
+
+// Says what stands at a position that has a byte outside ASCII, and its bytes.
+pub fn show_far(text: &[u8], at: usize) {
+    let a = byte_at(text, at);
+    let b = byte_at(text, wrapping_add_usize(at, 1));
+    let c = byte_at(text, wrapping_add_usize(at, 2));
+    if !show_hidden(at == 0, a, b, c) {
+        show_letter(text, at, a, b, c);
     }
     show::text(b"(bytes ");
     show::hex(a as u64, 2);

@@ -1,5 +1,6 @@
 // The lines of the text: each declares a measure or a switch, or is a rule.
 use super::faults::Fault;
+use super::faults::Limit;
 use super::faults::Used;
 use super::faults::is_limit;
 use super::faults::show_fault;
@@ -53,11 +54,11 @@ fn read_variable(text: &[u8], at: usize, switch: bool, s: Sheet) -> Sheet {
     }
     let mut v = s.next_measure;
     let mut limit = FIRST_BOOLEAN;
-    let mut fault = Fault::TooManyMeasures;
+    let mut fault = Fault::Hit(Limit::Measures);
     if switch {
         v = s.next_switch;
         limit = VARIABLES;
-        fault = Fault::TooManySwitches;
+        fault = Fault::Hit(Limit::Switches);
     }
     if v >= VARIABLES || v >= limit {
         return refused(text, w.start, fault, s);
@@ -77,7 +78,7 @@ fn with_rule(text: &[u8], rules: &mut [usize], s: Sheet, w: Word, id: NodeId) ->
     let mut s = s;
     let n = s.count;
     if !put_rule(rules, n, w, id) {
-        return refused(text, w.start, Fault::TooManyRules, s);
+        return refused(text, w.start, Fault::Hit(Limit::Rules), s);
     }
     s.count = wrapping_add_usize(n, 1);
     let width = bytes_of(text, w).len();
@@ -108,8 +109,8 @@ fn which_limit(
     let c = condition(text, nodes, children, cuts, index, memo, variables, at);
     let fault = c.fault;
     match fault {
-        Fault::Nothing => Fault::Full(used),
-        Fault::NoRoom => Fault::TooLarge,
+        Fault::Nothing => Fault::Hit(Limit::Table(used)),
+        Fault::NoRoom => Fault::Hit(Limit::Condition),
         _ => fault,
     }
 }

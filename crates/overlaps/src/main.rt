@@ -14,6 +14,8 @@ use libc::STDIN_FILENO;
 use lines::MOST_SHOWN;
 use names::RULE_WORDS;
 use std::num::wrapping_add_u64;
+use std::num::wrapping_sub_usize;
+use table::limits::FIRST_BOOLEAN;
 use table::limits::MOST_EDGE_ROOM;
 use table::limits::MOST_NODES;
 
@@ -72,6 +74,8 @@ fn compare(text: &[u8], all: bool) -> Verdict {
         show::text(b"No rules found: no line starts with the word rule.\n");
         return Verdict::NoReport;
     }
+    let used = table::calls::check(&nodes, &children, &cuts, &index);
+    let switches = wrapping_sub_usize(s.next_switch, FIRST_BOOLEAN);
     let t = report::show_report(
         text,
         &mut nodes,
@@ -80,21 +84,11 @@ fn compare(text: &[u8], all: bool) -> Verdict {
         &mut index,
         &mut memo,
         &rules,
-        s,
+        s.count,
+        s.widest,
+        all,
     );
-    if all {
-        report::show_all(
-            text,
-            &mut nodes,
-            &mut children,
-            &mut cuts,
-            &mut index,
-            &mut memo,
-            &rules,
-            s,
-            t,
-        );
-    }
+    report::show_sizes(s.count, s.next_measure, switches, used);
     if t.refused > 0 {
         return Verdict::NoReport;
     }
@@ -116,13 +110,13 @@ fn read_and_compare(all: bool) -> Verdict {
         return Verdict::NoReport;
     }
     if more > 0 {
-        show::text(b"limit: the rules have more than 262,144 bytes. No pairs are reported.\n");
+        show::text(b"limit: 262144 bytes of text. No pairs are reported.\n");
         return Verdict::NoReport;
     }
     compare(&text[..n], all)
 }
 
-// Without an argument the findings; with --all every rule and pair beside them.
+// Without an argument the findings; with --all every pair and every rule.
 fn what_is_asked() -> Asked {
     let count = os::arg_count();
     if count < 2 {

@@ -1,18 +1,16 @@
-// The report: the pairs of rules that can both hold, the rules that hold always or never, and how many pairs are what. On request every
-// rule with its id, and the pairs that are apart.
+// The report: the pairs of rules that can both hold, the rules that hold always or never, and how many pairs are what. On request the pairs
+// that are apart too, and every rule with its id.
 use super::names::MOST_RULES;
-use super::names::Sheet;
+use super::names::Rule;
 use super::names::rule_at;
 use super::show;
+use super::text::NO_WORD;
 use super::text::Word;
 use super::text::bytes_of;
 use ids::NodeId;
 use kernel::answers::NO_ROOM;
 use kernel::joins_calls::and;
 use std::num::wrapping_add_u64;
-use std::num::wrapping_sub_usize;
-use table::calls::check;
-use table::limits::FIRST_BOOLEAN;
 use table::told::Checked;
 use table::told::DONE;
 
@@ -83,14 +81,6 @@ fn related(
     Relation::Overlap
 }
 
-// How many pairs were found that are not apart.
-fn findings(t: Tally) -> u64 {
-    wrapping_add_u64(
-        wrapping_add_u64(t.overlap, t.refused),
-        wrapping_add_u64(t.same, t.inside),
-    )
-}
-
 // The heading of the table of pairs.
 fn show_heading(width: usize) {
     show::column(b"pair", KIND);
@@ -111,18 +101,16 @@ fn show_row(text: &[u8], width: usize, kind: &[u8], first: Word, second: Word, w
     show::text(b"\n");
 }
 
-// Counts a pair, and shows it, with the heading before the first, unless it is apart. Of a pair inside, the inner rule comes first.
-fn found(text: &[u8], width: usize, a: Word, b: Word, r: Relation, t: Tally) -> Tally {
+// Shows a pair and counts it; one that is apart is shown only where all are asked for. Of a pair inside, the inner rule comes first.
+fn found(text: &[u8], width: usize, a: Word, b: Word, r: Relation, all: bool, t: Tally) -> Tally {
     let mut t = t;
-    if let Relation::Apart = r {
-        t.apart = wrapping_add_u64(t.apart, 1);
-        return t;
-    }
-    if findings(t) == 0 {
-        show_heading(width);
-    }
     match r {
-        Relation::Apart => {}
+        Relation::Apart => {
+            if all {
+                show_row(text, width, b"apart", a, b, b"never: proved");
+            }
+            t.apart = wrapping_add_u64(t.apart, 1);
+        }
         Relation::Overlap => {
             show_row(text, width, b"OVERLAP", a, b, b"at some readings");
             t.overlap = wrapping_add_u64(t.overlap, 1);
@@ -147,8 +135,7 @@ fn found(text: &[u8], width: usize, a: Word, b: Word, r: Relation, t: Tally) -> 
     t
 }
 
-// Pair k, if its first rule comes before its second: counted, and shown unless it is apart; or, where the pairs apart are listed, shown if
-// it is apart and not counted.
+// Pair k, if its first rule comes before its second.
 fn pair(
     text: &[u8],
     nodes: &mut [u32],
@@ -157,14 +144,15 @@ fn pair(
     index: &mut [u32],
     memo: &mut [u32],
     rules: &[usize],
-    s: Sheet,
+    count: usize,
+    width: usize,
     k: usize,
-    listing: bool,
+    all: bool,
     t: Tally,
 ) -> Tally {
     let i = k / MOST_RULES;
     let j = k % MOST_RULES;
-    if i >= j || j >= s.count {
+    if i >= j || j >= count {
         return t;
     }
     let first = rule_at(rules, i);
@@ -174,16 +162,10 @@ fn pair(
     let a = first.name;
     let b = second.name;
     let r = related(nodes, children, cuts, index, memo, x, y);
-    if !listing {
-        return found(text, s.widest, a, b, r, t);
-    }
-    if let Relation::Apart = r {
-        show_row(text, s.widest, b"apart", a, b, b"never: proved");
-    }
-    t
+    found(text, width, a, b, r, all, t)
 }
 
-// All pairs, found or listed.
+// All pairs.
 fn all_pairs(
     text: &[u8],
     nodes: &mut [u32],
@@ -192,11 +174,17 @@ fn all_pairs(
     index: &mut [u32],
     memo: &mut [u32],
     rules: &[usize],
-    s: Sheet,
-    listing: bool,
-    before: Tally,
+    count: usize,
+    width: usize,
+    all: bool,
 ) -> Tally {
-    let mut t = before;
+    let mut t = Tally {
+        apart: 0,
+        overlap: 0,
+        same: 0,
+        inside: 0,
+        refused: 0,
+    };
     for k in 0..PAIRS {
         t = pair(
             text,
@@ -206,95 +194,76 @@ fn all_pairs(
             index,
             memo,
             rules,
-            s,
+            count,
+            width,
             k,
-            listing,
+            all,
             t,
         );
     }
     t
 }
 
-// A rule that always or never holds is a finding too: nobody writes one on purpose.
-fn show_constant(text: &[u8], rules: &[usize], s: Sheet, i: usize) {
-    if i >= s.count {
-        return;
-    }
-    let rule = rule_at(rules, i);
+// A rule that always or never holds is a finding too: nobody writes one on purpose. Where all is asked for, every rule is shown with its id.
+fn show_rule(text: &[u8], rule: Rule, width: usize, all: bool) {
     let id = rule.id;
     let name = rule.name;
     if id.is_true() {
-        show::column(b"ALWAYS", KIND);
-        show::column(bytes_of(text, name), s.widest);
-        show::text(b"  every reading meets it\n");
+        show_row(
+            text,
+            width,
+            b"ALWAYS",
+            name,
+            NO_WORD,
+            b"every reading meets it",
+        );
     }
     if id.is_false() {
-        show::column(b"NEVER", KIND);
-        show::column(bytes_of(text, name), s.widest);
-        show::text(b"  no reading meets it\n");
+        show_row(text, width, b"NEVER", name, NO_WORD, b"no reading meets it");
+    }
+    if all {
+        show::column(b"rule", KIND);
+        show::column(bytes_of(text, name), width);
+        show::labelled(b"  id ", id.0 as u64);
+        show::text(b"\n");
     }
 }
 
-// A rule with its id.
-fn show_rule(text: &[u8], rules: &[usize], s: Sheet, i: usize) {
-    if i >= s.count {
-        return;
-    }
-    let rule = rule_at(rules, i);
-    let id = rule.id;
-    let name = rule.name;
-    show::column(bytes_of(text, name), s.widest);
-    show::text(b"  ");
-    show::number(id.0 as u64);
-    show::text(b"\n");
-}
-
-// All rules: those that always or never hold, or every one with its id.
-fn show_rules(text: &[u8], rules: &[usize], s: Sheet, listing: bool) {
-    for i in 0..MOST_RULES {
-        if listing {
-            show_rule(text, rules, s, i);
-        } else {
-            show_constant(text, rules, s, i);
-        }
+// The rules that are findings, or all.
+fn show_rules(text: &[u8], rules: &[usize], count: usize, width: usize, all: bool) {
+    for i in 0..count {
+        show_rule(text, rule_at(rules, i), width, all);
     }
 }
 
 // How many pairs are what.
 fn show_tally(t: Tally) {
     let inner = wrapping_add_u64(t.same, t.inside);
-    show::text(b"Pairs that overlap: ");
-    show::number(wrapping_add_u64(t.overlap, inner));
-    show::text(b" (the same condition: ");
-    show::number(t.same);
-    show::text(b", one inside the other: ");
-    show::number(t.inside);
-    show::text(b"). Pairs proved apart: ");
-    show::number(t.apart);
+    show::labelled(
+        b"\nPairs that overlap: ",
+        wrapping_add_u64(t.overlap, inner),
+    );
+    show::labelled(b" (the same condition: ", t.same);
+    show::labelled(b", one inside the other: ", t.inside);
+    show::labelled(b"). Pairs proved apart: ", t.apart);
     show::text(b".\n");
     if t.refused > 0 {
-        show::text(b"Pairs of which nothing is known, since the kernel refused: ");
-        show::number(t.refused);
+        show::labelled(b"Pairs that the kernel refused: ", t.refused);
         show::text(b".\n");
     }
 }
 
-// What was read, and how much of the table it took.
-fn show_sizes(s: Sheet, told: Checked) {
-    show::text(b"rules: ");
-    show::number(s.count as u64);
-    show::text(b", measures: ");
-    show::number(s.next_measure as u64);
-    show::text(b", switches: ");
-    show::number(wrapping_sub_usize(s.next_switch, FIRST_BOOLEAN) as u64);
-    show::text(b"; table: ");
-    show::number(told.nodes as u64);
-    show::text(b" of 4096 nodes, ");
-    show::number(told.edges as u64);
+// What was read, and how much of the table it takes.
+pub fn show_sizes(rules: usize, measures: usize, switches: usize, used: Checked) {
+    show::labelled(b"rules: ", rules as u64);
+    show::labelled(b", measures: ", measures as u64);
+    show::labelled(b", switches: ", switches as u64);
+    show::labelled(b"; table: ", used.nodes as u64);
+    show::labelled(b" of 4096 nodes, ", used.edges as u64);
     show::text(b" of 16384 edges\n");
 }
 
-// The report, findings first. Returns how many pairs are what.
+// The report, findings first, or where all is asked for every pair and every rule. Returns how many pairs are what.
 pub fn show_report(
     text: &[u8],
     nodes: &mut [u32],
@@ -303,16 +272,11 @@ pub fn show_report(
     index: &mut [u32],
     memo: &mut [u32],
     rules: &[usize],
-    s: Sheet,
+    count: usize,
+    width: usize,
+    all: bool,
 ) -> Tally {
-    let told = check(nodes, children, cuts, index);
-    let none = Tally {
-        apart: 0,
-        overlap: 0,
-        same: 0,
-        inside: 0,
-        refused: 0,
-    };
+    show_heading(width);
     let t = all_pairs(
         text,
         nodes,
@@ -321,36 +285,11 @@ pub fn show_report(
         index,
         memo,
         rules,
-        s,
-        false,
-        none,
+        count,
+        width,
+        all,
     );
-    if findings(t) > 0 {
-        show::text(b"\n");
-    }
-    show_rules(text, rules, s, false);
+    show_rules(text, rules, count, width, all);
     show_tally(t);
-    show_sizes(s, told);
     t
-}
-
-// What is shown on request: every rule, and every pair that is apart.
-pub fn show_all(
-    text: &[u8],
-    nodes: &mut [u32],
-    children: &mut [u32],
-    cuts: &mut [i64],
-    index: &mut [u32],
-    memo: &mut [u32],
-    rules: &[usize],
-    s: Sheet,
-    t: Tally,
-) {
-    show::text(b"\n");
-    show::column(b"rule", s.widest);
-    show::text(b"  id (equal ids: the same condition; 0 always holds, 1 never)\n");
-    show_rules(text, rules, s, true);
-    show::text(b"\n");
-    show_heading(s.widest);
-    all_pairs(text, nodes, children, cuts, index, memo, rules, s, true, t);
 }

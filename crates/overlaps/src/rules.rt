@@ -1,5 +1,6 @@
 // A rule's condition, read from the text into an id of the table.
 use super::faults::Fault;
+use super::faults::Limit;
 use super::keys::Key;
 use super::keys::key_of;
 use super::names::Found;
@@ -55,7 +56,7 @@ fn refusal(number: u32) -> Fault {
     if number == NO_ROOM {
         return Fault::NoRoom;
     }
-    Fault::Refused(number)
+    Fault::Hit(Limit::Refused(number))
 }
 
 // The kernel's answer for what the terms since the last `or` say together, up to position `at`; a refusal is shown where `from` is.

@@ -11,6 +11,12 @@ pub fn number(n: u64) {
     io::print_decimal(STDOUT_FILENO, n);
 }
 
+// Words and a number behind them.
+pub fn labelled(words: &[u8], n: u64) {
+    text(words);
+    number(n);
+}
+
 // A number in hexadecimal, with zeros in front up to a width.
 pub fn hex(n: u64, width: usize) {
     io::print_hex(STDOUT_FILENO, n, width);

@@ -7,11 +7,11 @@ use Rattle.overlaps.proofs.report.all_pairs.Statement.{statement}
 use Rattle.overlaps.proofs.report.all_pairs.Tie as tie
 
 abbrev Inv-loop : tie.InvT-loop
-Inv-loop text nodes₀ children₀ cuts₀ index₀ memo₀ rules s listing t₀ k₀ nodes children cuts index memo t k =
+Inv-loop text nodes₀ children₀ cuts₀ index₀ memo₀ rules count width all t₀ k₀ nodes children cuts index memo t k =
     (k ≤ 65536) × (length nodes ≡ length nodes₀) × (length children ≡ length children₀) × (length cuts ≡ length cuts₀) × (length index ≡ length index₀) × (length memo ≡ length memo₀)
 
 abbrev μ-loop : tie.MeasureT-loop
-μ-loop text nodes₀ children₀ cuts₀ index₀ memo₀ rules s listing t₀ k₀ nodes children cuts index memo t k =
+μ-loop text nodes₀ children₀ cuts₀ index₀ memo₀ rules count width all t₀ k₀ nodes children cuts index memo t k =
     65536 - k
 
 loop-holds : tie.Need-loop-holds Inv-loop μ-loop

@@ -1,23 +1,23 @@
--- `overlaps::report::show_rules` ends: the number of rules looked at is at most 256. Assumes nothing.
-use Prim.Native.Nat.{_-_, _≤_}
+-- `overlaps::report::show_rules` ends: the rules left grow fewer. Assumes nothing.
+use Prim.Native.Nat.{_-_}
 use borrow.Author.Needs.{needs}
 use Rattle.overlaps.proofs.report.show_rules.Statement.{statement}
 use Rattle.overlaps.proofs.report.show_rules.Tie as tie
 
 abbrev Inv-loop : tie.InvT-loop
-Inv-loop text rules s listing i₀ i = i ≤ 256
+Inv-loop text rules count width all i₀ i = Unit {0}
 
 abbrev μ-loop : tie.MeasureT-loop
-μ-loop text rules s listing i₀ i = 256 - i
+μ-loop text rules count width all i₀ i = count - i
 
 loop-holds : tie.Need-loop-holds Inv-loop μ-loop
 loop-holds c = search needs
 
+rule-at-requires : tie.Need-rule-at-requires Inv-loop μ-loop
+rule-at-requires c κs = search needs
+
 show-rule-requires : tie.Need-show-rule-requires Inv-loop μ-loop
 show-rule-requires c κs = search needs
-
-show-constant-requires : tie.Need-show-constant-requires Inv-loop μ-loop
-show-constant-requires c κs = search needs
 
 add-i : tie.Need-add-i Inv-loop μ-loop
 add-i c = search needs
@@ -38,8 +38,8 @@ show-rules-spec =
     Inv-loop
     μ-loop
     loop-holds
+    rule-at-requires
     show-rule-requires
-    show-constant-requires
     add-i
     loop-less
     loop-again
