@@ -1,6 +1,7 @@
 /*
  * Spanwhistle: compares the conditions of correction rules exactly. This header is for C99 and C++; link target/staticlib/libspanwhistle.a,
- * which `rt staticlib spanwhistle` makes. The archive needs memcpy and memset and nothing else.
+ * which `rt staticlib spanwhistle` makes, or `tools/install` with a pkg-config file. The archive needs memcpy and memset and nothing else. It
+ * has 28,149 bytes of code and constants and no data of its own, if all calls are linked (x86-64, by `size`).
  *
  * WHAT A TABLE IS
  *
@@ -55,9 +56,19 @@
  * Calls that walk down a table call themselves, once for each variable on the way, and most of them with an array of 64 edges each time
  * (`and` and `or` at range variables alone). They need a deep stack. Enough in our deepest test were 92,504 bytes for `restrict`, 83,384
  * for `and` and `or`, 53,112 for `widen`, 48,968 for `narrow`, 11,336 for `is_disjoint`, 2,616 for a condition and 400 for the rest. The
- * test is examples/stack.c: conditions over all 64 variables, on x86-64 with this project's compiler. Fewer variables take less. It is
- * measured and not proved, and another machine has other figures. SPANWHISTLE_STACK_JOIN and the like are these, rounded up; what
- * interrupts need on the same stack comes on top.
+ * test is examples/stack.c: conditions over all 64 variables, on x86-64 with this project's compiler. It is measured and not proved, and
+ * another machine has other figures. SPANWHISTLE_STACK_JOIN and the like are these, rounded up. Conditions that test fewer variables take less:
+ *
+ *     variables         2       4       8      16      32      64
+ *     and, or       3,800   7,736  15,608  31,352  62,840  83,384
+ *     restrict      4,216   7,064  12,760  24,152  46,936  92,504
+ *     narrow        4,328   7,208  12,968  24,488  47,528  48,968
+ *     widen         8,472  11,352  17,112  28,632  51,672  53,112
+ *     is_disjoint     424     776   1,480   2,888   5,704  11,336
+ *
+ * where all variables but one are ranges, as far as there are: a boolean takes `and` and `or` less, and narrow and widen go no deeper than
+ * their variable. SPANWHISTLE_STACK_JOIN_OF(V) and the like are enough for V variables in the same test. What interrupts need on the same stack
+ * comes on top.
  */
 #ifndef SPANWHISTLE_H
 #define SPANWHISTLE_H
@@ -70,7 +81,7 @@ extern "C" {
 #endif
 
 /* The version of this header and of its archive. The last number rises where nothing changes that a caller sees, the middle one where
-   something is added, the first where callers have to change. Before 1.0 the middle one stands for the last two. */
+   something is added, the first where callers have to change. Before 1.0 the middle one rises for either. */
 #define SPANWHISTLE_VERSION_MAJOR 0
 #define SPANWHISTLE_VERSION_MINOR 2
 #define SPANWHISTLE_VERSION_PATCH 0
@@ -141,6 +152,12 @@ static inline const char *spanwhistle_name(uint32_t number) {
 #define SPANWHISTLE_STACK_DISJOINT (12u * 1024u) /* spanwhistle_is_disjoint */
 #define SPANWHISTLE_STACK_CONDITION (3u * 1024u) /* the six comparisons, spanwhistle_from_range, spanwhistle_from_bool */
 #define SPANWHISTLE_STACK_READ 1024u             /* spanwhistle_check, spanwhistle_fresh, spanwhistle_evaluate, spanwhistle_not */
+
+/* The same where the conditions test no more than V variables between them. */
+#define SPANWHISTLE_STACK_JOIN_OF(V) (512u + 2000u * (V))
+#define SPANWHISTLE_STACK_RESTRICT_OF(V) (2048u + 1440u * (V))
+#define SPANWHISTLE_STACK_NARROW_OF(V) (6144u + 1456u * (V))
+#define SPANWHISTLE_STACK_DISJOINT_OF(V) (512u + 184u * (V))
 
 /* A table that you lend, to write it once: `spanwhistle_and(SPANWHISTLE_LENT(t), memo, memo_len, x, y, &id)`. */
 typedef struct spanwhistle_table {

@@ -3,15 +3,16 @@ use core::ops::{Bound, RangeBounds};
 
 /// The two ends of a range, as the kernel takes them: for each a kind and a key. Where an end is open the kernel does not look at the key.
 #[derive(Clone, Copy, Debug, PartialEq, Eq)]
-pub(crate) struct Ends {
-    pub(crate) lower_kind: u32,
-    pub(crate) lower_key: i32,
-    pub(crate) upper_kind: u32,
-    pub(crate) upper_key: i32,
+pub struct Ends {
+    pub lower_kind: u32,
+    pub lower_key: i32,
+    pub upper_kind: u32,
+    pub upper_key: i32,
 }
 
 impl Ends {
-    pub(crate) fn of(range: impl RangeBounds<i32>) -> Ends {
+    /// The ends of a range of keys.
+    pub fn of(range: impl RangeBounds<i32>) -> Ends {
         let (lower_kind, lower_key) = end(range.start_bound());
         let (upper_kind, upper_key) = end(range.end_bound());
         Ends {

@@ -1,15 +1,14 @@
 // The lines of the text: each declares a measure or a switch, or is a rule.
 use super::faults::Fault;
 use super::faults::Limit;
-use super::faults::Used;
 use super::faults::is_limit;
 use super::faults::show_fault;
-use super::names::Names;
 use super::names::Sheet;
 use super::names::empty_sheet;
 use super::names::new_rule;
 use super::names::new_variable;
 use super::names::put_rule;
+use super::rules::Partial;
 use super::rules::condition;
 use super::text::Word;
 use super::text::bytes_of;
@@ -19,13 +18,19 @@ use super::text::reads;
 use ids::NodeId;
 use std::num::wrapping_add_u64;
 use std::num::wrapping_add_usize;
-use table::calls::check;
-use table::calls::fresh;
 use table::limits::FIRST_BOOLEAN;
 use table::limits::VARIABLES;
 
 // So many lines that cannot be read are shown. All are counted, and a limit is always shown.
 pub const MOST_SHOWN: u64 = 20;
+
+// The start of a rule's line: its name, and where the colon behind it ends. Or why it is none, and where.
+struct Head {
+    name: Word,
+    end: usize,
+    place: usize,
+    fault: Fault,
+}
 
 // A line that cannot be read is shown at once, and counted.
 fn refused(text: &[u8], at: usize, fault: Fault, s: Sheet) -> Sheet {
@@ -88,30 +93,43 @@ fn with_rule(text: &[u8], rules: &mut [usize], s: Sheet, w: Word, id: NodeId) ->
     s
 }
 
-// Which limit a condition hit that found no room. It is read again in a table made empty: where it fits there, the rules before it take
-// the room. The table is of no use afterwards, and need not be: nothing is reported of rules of which one is missing.
-fn which_limit(
-    text: &[u8],
-    nodes: &mut [u32],
-    children: &mut [u32],
-    cuts: &mut [i64],
-    index: &mut [u32],
-    memo: &mut [u32],
-    variables: Names,
-    at: usize,
-) -> Fault {
-    let told = check(nodes, children, cuts, index);
-    let used = Used {
-        nodes: told.nodes as u64,
-        edges: told.edges as u64,
-    };
-    fresh(nodes, children, cuts, index);
-    let c = condition(text, nodes, children, cuts, index, memo, variables, at);
+// `rule NAME:`, from the name on.
+fn rule_head(text: &[u8], rules: &[usize], count: usize, at: usize) -> Head {
+    let name = next_word(text, at);
+    let colon = next_word(text, name.end);
+    let mut place = name.start;
+    let mut fault = new_rule(text, rules, count, name);
+    if let Fault::Nothing = fault {
+        if !reads(text, colon, b":") {
+            place = colon.start;
+            fault = Fault::NoColon;
+        }
+    }
+    Head {
+        name,
+        end: colon.end,
+        place,
+        fault,
+    }
+}
+
+// A rule whose condition was read, or why it was not. "No room" is shown later, when it is found out which limit that is.
+fn rule_read(text: &[u8], rules: &mut [usize], s: Sheet, h: Head, c: Partial) -> Sheet {
+    let mut s = s;
+    let name = h.name;
     let fault = c.fault;
+    let id = c.any;
     match fault {
-        Fault::Nothing => Fault::Hit(Limit::Table(used)),
-        Fault::NoRoom => Fault::Hit(Limit::Condition),
-        _ => fault,
+        Fault::Nothing => with_rule(text, rules, s, name, id),
+        Fault::NoRoom => {
+            s.faults = wrapping_add_u64(s.faults, 1);
+            s.limited = true;
+            s.no_room = true;
+            s.last_name = name.start;
+            s.last_condition = h.end;
+            s
+        }
+        _ => refused(text, c.at, fault, s),
     }
 }
 
@@ -127,50 +145,31 @@ fn read_rule(
     at: usize,
     s: Sheet,
 ) -> Sheet {
-    let w = next_word(text, at);
-    let fault = new_rule(text, rules, s.count, w);
+    let h = rule_head(text, rules, s.count, at);
+    let fault = h.fault;
     let Fault::Nothing = fault else {
-        return refused(text, w.start, fault, s);
+        return refused(text, h.place, fault, s);
     };
-    let colon = next_word(text, w.end);
-    if !reads(text, colon, b":") {
-        return refused(text, colon.start, Fault::NoColon, s);
-    }
     let variables = s.variables;
-    let c = condition(
-        text,
-        nodes,
-        children,
-        cuts,
-        index,
-        memo,
-        variables,
-        colon.end,
-    );
-    let fault = c.fault;
-    match fault {
-        Fault::Nothing => {
-            let id = c.any;
-            with_rule(text, rules, s, w, id)
-        }
-        Fault::NoRoom => {
-            let limit = which_limit(
-                text,
-                nodes,
-                children,
-                cuts,
-                index,
-                memo,
-                variables,
-                colon.end,
-            );
-            refused(text, w.start, limit, s)
-        }
-        _ => refused(text, c.at, fault, s),
-    }
+    let c = condition(text, nodes, children, cuts, index, memo, variables, h.end);
+    rule_read(text, rules, s, h, c)
 }
 
-// One line. Its first word says what it is; an empty line and a comment say nothing.
+// A line that is no rule. Its first word says what it is; an empty line and a comment say nothing.
+fn read_other(text: &[u8], w: Word, s: Sheet) -> Sheet {
+    if reads(text, w, b"") {
+        return s;
+    }
+    if reads(text, w, b"measure") {
+        return read_variable(text, w.end, false, s);
+    }
+    if reads(text, w, b"switch") {
+        return read_variable(text, w.end, true, s);
+    }
+    refused(text, w.start, Fault::UnknownLine, s)
+}
+
+// One line.
 fn read_line(
     text: &[u8],
     nodes: &mut [u32],
@@ -185,19 +184,10 @@ fn read_line(
     let mut s = s;
     s.line = wrapping_add_u64(s.line, 1);
     let w = next_word(text, at);
-    if reads(text, w, b"") {
-        return s;
-    }
-    if reads(text, w, b"measure") {
-        return read_variable(text, w.end, false, s);
-    }
-    if reads(text, w, b"switch") {
-        return read_variable(text, w.end, true, s);
-    }
     if reads(text, w, b"rule") {
         return read_rule(text, nodes, children, cuts, index, memo, rules, w.end, s);
     }
-    refused(text, w.start, Fault::UnknownLine, s)
+    read_other(text, w, s)
 }
 
 // Where to read on: at the next line, or where a limit was hit at the end of the text.

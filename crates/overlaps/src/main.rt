@@ -10,14 +10,23 @@ mod rules;
 mod show;
 mod text;
 
+use faults::Fault;
+use faults::Limit;
+use faults::Used;
+use faults::show_fault;
 use libc::STDIN_FILENO;
 use lines::MOST_SHOWN;
+use names::Names;
 use names::RULE_WORDS;
+use names::Sheet;
+use rules::condition;
 use std::num::wrapping_add_u64;
 use std::num::wrapping_sub_usize;
+use table::calls::check;
 use table::limits::FIRST_BOOLEAN;
 use table::limits::MOST_EDGE_ROOM;
 use table::limits::MOST_NODES;
+use table::told::Checked;
 
 // The most that is read.
 const MOST_TEXT: usize = 262144;
@@ -48,6 +57,44 @@ fn show_unread(faults: u64, limited: bool) {
     show::text(b".\nNo pairs are reported: a report without these lines could hide an overlap.\n");
 }
 
+// Whether the condition at a position has room in a table of its own. It was read once, so that there is no other fault.
+fn fits_alone(text: &[u8], variables: Names, at: usize) -> bool {
+    let mut nodes = [0u32; MOST_NODES * 4];
+    let mut children = [0u32; MOST_EDGE_ROOM];
+    let mut cuts = [0i64; MOST_EDGE_ROOM];
+    let mut index = [0u32; MOST_NODES * 2];
+    let mut memo = [0u32; MOST_NODES * 3];
+    let c = condition(
+        text,
+        &mut nodes,
+        &mut children,
+        &mut cuts,
+        &mut index,
+        &mut memo,
+        variables,
+        at,
+    );
+    let fault = c.fault;
+    if let Fault::Nothing = fault {
+        return true;
+    }
+    false
+}
+
+// Which limit the last rule hit, where the kernel found no room: that of the table, where the rule fits alone, or one of its own.
+fn show_no_room(text: &[u8], s: Sheet, used: Checked) {
+    let variables = s.variables;
+    let used = Used {
+        nodes: used.nodes as u64,
+        edges: used.edges as u64,
+    };
+    let mut limit = Limit::Condition;
+    if fits_alone(text, variables, s.last_condition) {
+        limit = Limit::Table(used);
+    }
+    show_fault(text, s.line, s.last_name, Fault::Hit(limit));
+}
+
 // Reads the rules into an empty table and reports on them, if there are some and every line could be read. The table has all the room that
 // the kernel allows: docs/LAYOUT.md. All words 0 is the empty table.
 fn compare(text: &[u8], all: bool) -> Verdict {
@@ -66,6 +113,10 @@ fn compare(text: &[u8], all: bool) -> Verdict {
         &mut memo,
         &mut rules,
     );
+    let used = check(&nodes, &children, &cuts, &index);
+    if s.no_room {
+        show_no_room(text, s, used);
+    }
     if s.faults > 0 {
         show_unread(s.faults, s.limited);
         return Verdict::NoReport;
@@ -74,7 +125,6 @@ fn compare(text: &[u8], all: bool) -> Verdict {
         show::text(b"No rules found: no line starts with the word rule.\n");
         return Verdict::NoReport;
     }
-    let used = table::calls::check(&nodes, &children, &cuts, &index);
     let switches = wrapping_sub_usize(s.next_switch, FIRST_BOOLEAN);
     let t = report::show_report(
         text,

@@ -37,8 +37,11 @@ pub struct Sheet {
     // How many lines were read, and how many of them could not be.
     pub line: u64,
     pub faults: u64,
-    // Whether a limit was hit, so that no more is read.
+    // Whether a limit was hit, so that no more is read. Where it is the kernel's "no room", the rule's name and where its condition starts.
     pub limited: bool,
+    pub no_room: bool,
+    pub last_name: usize,
+    pub last_condition: usize,
 }
 
 // A slot of `Names`, or none.
@@ -65,6 +68,9 @@ pub fn empty_sheet() -> Sheet {
         line: 0,
         faults: 0,
         limited: false,
+        no_room: false,
+        last_name: 0,
+        last_condition: 0,
     }
 }
 

@@ -8,6 +8,7 @@ use super::text::NO_WORD;
 use super::text::Word;
 use super::text::bytes_of;
 use ids::NodeId;
+use kernel::answers::Answer;
 use kernel::answers::NO_ROOM;
 use kernel::joins_calls::and;
 use std::num::wrapping_add_u64;
@@ -45,27 +46,17 @@ pub struct Tally {
     pub refused: u64,
 }
 
-// Decided by one `and`, and never by `is_disjoint`, whose work may double with each variable. Equal ids are equal conditions, so the id
-// of "both" tells: FALSE, that no reading makes both hold; x, that x never holds without y. The nodes of the answers stay in the table
-// until it is full. Then `and` may tell 6, and that decides too: it is told exactly when no table that goes on from this one has room for
-// the answer, and this one holds FALSE, x and y, so that "both" is none of them.
-fn related(
-    nodes: &mut [u32],
-    children: &mut [u32],
-    cuts: &mut [i64],
-    index: &mut [u32],
-    memo: &mut [u32],
-    x: NodeId,
-    y: NodeId,
-) -> Relation {
-    let both = and(nodes, children, cuts, index, memo, x, y);
+// What x and y are to each other, by the answer of `and` of them. Equal ids are equal conditions, so the id of "both" tells: FALSE, that no
+// reading makes both hold; x, that x never holds without y. "No room" decides too: it is told exactly when no table that goes on from this
+// one has room for the answer, and this one holds FALSE, x and y, so that "both" is none of them.
+fn relation_of(both: Answer, x: NodeId, y: NodeId) -> Relation {
+    let z = both.id;
     if both.number == NO_ROOM {
         return Relation::Overlap;
     }
     if both.number != DONE {
         return Relation::Refused;
     }
-    let z = both.id;
     if z.is_false() {
         return Relation::Apart;
     }
@@ -79,6 +70,20 @@ fn related(
         return Relation::Around;
     }
     Relation::Overlap
+}
+
+// Decided by one `and`, and never by `is_disjoint`, whose work may double with each variable. The nodes of the answer stay in the table.
+fn related(
+    nodes: &mut [u32],
+    children: &mut [u32],
+    cuts: &mut [i64],
+    index: &mut [u32],
+    memo: &mut [u32],
+    x: NodeId,
+    y: NodeId,
+) -> Relation {
+    let both = and(nodes, children, cuts, index, memo, x, y);
+    relation_of(both, x, y)
 }
 
 // The heading of the table of pairs.
