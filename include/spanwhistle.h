@@ -268,7 +268,7 @@ uint32_t spanwhistle_or(SPANWHISTLE_LENDS, uint32_t *memo, size_t memo_len, uint
  * Are x and y apart, so that no reading makes both hold? Two rules whose conditions are apart never correct the same delivery.
  * Returns 0, or 1, 2 or 3. Writes 1 (yes, apart) or 0 (no, they overlap) to `yes`, and 0 beside a refusal; not the table.
  * It has no memo: of large conditions that share much of their shape it may take long (its work may double with each variable; two rules
- * over 63 variables, in 2 KB of text, had no answer after a minute). The way out is spanwhistle_and, which has a memo: x and y are apart
+ * over 63 variables, in 2 KB of text, had no answer after two minutes). The way out is spanwhistle_and, which has a memo: x and y are apart
  * exactly when it writes SPANWHISTLE_FALSE. Where it is told 6 they overlap: every table holds FALSE, so the answer is another.
  */
 SPANWHISTLE_MUST_USE
