@@ -1,7 +1,7 @@
 /*
  * Spanwhistle: compares the conditions of correction rules exactly. This header is for C99 and C++; link target/staticlib/libspanwhistle.a,
  * which `rt staticlib spanwhistle` makes, or `tools/install` with a pkg-config file. The archive needs memcpy and memset and nothing else. It
- * has 28,149 bytes of code and constants and no data of its own, if all calls are linked (x86-64, by `size`).
+ * has 28 KB of code and constants, if all calls are linked, and no data (28,149, 0 and 0 bytes of text, data and bss by `size`, x86-64).
  *
  * WHAT A TABLE IS
  *

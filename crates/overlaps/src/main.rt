@@ -57,7 +57,7 @@ fn show_unread(faults: u64, limited: bool) {
     show::text(b".\nNo pairs are reported: a report without these lines could hide an overlap.\n");
 }
 
-// Whether the condition at a position has room in a table of its own. It was read once, so that there is no other fault.
+// Whether the condition at a position has room in a table of its own, as far as it can be read.
 fn fits_alone(text: &[u8], variables: Names, at: usize) -> bool {
     let mut nodes = [0u32; MOST_NODES * 4];
     let mut children = [0u32; MOST_EDGE_ROOM];
@@ -75,10 +75,10 @@ fn fits_alone(text: &[u8], variables: Names, at: usize) -> bool {
         at,
     );
     let fault = c.fault;
-    if let Fault::Nothing = fault {
-        return true;
+    if let Fault::NoRoom = fault {
+        return false;
     }
-    false
+    true
 }
 
 // Which limit the last rule hit, where the kernel found no room: that of the table, where the rule fits alone, or one of its own.
