@@ -1,6 +1,6 @@
 // A forecourt's rules, compared. Four rules correct a delivery, each under a condition of its own; two rules whose conditions overlap
 // correct the same delivery twice. The conditions are built in a table that is lent to the kernel, and the program prints which pairs
-// overlap. Then it takes a reading, and shows what the kernel says to a damaged table and to a full one. Every answer is compared with the
+// overlap. Then it takes a reading, and shows what the kernel says to a table that is not sound and to a full one. Every answer is compared with the
 // one that it must be; the first that differs ends the program with status 1.
 #include "spanwhistle.h"
 #include <stdio.h>
@@ -113,8 +113,8 @@ static void damage(const uint32_t rules[RULES]) {
     uint32_t id, number;
     cuts[0] ^= 4;
     number = spanwhistle_and(SPANWHISTLE_LENT(forecourt), MEMO, rules[0], rules[2], &id);
-    printf("a damaged table: %u\n", (unsigned)number);
-    must_be("damaged", number, SPANWHISTLE_NOT_SOUND);
+    printf("a word changed: %s\n", spanwhistle_name(number));
+    must_be("a word changed", number, SPANWHISTLE_NOT_SOUND);
     must_be("the id beside a refusal", id, SPANWHISTLE_FALSE);
     cuts[0] ^= 4;
 }
@@ -130,7 +130,7 @@ static void fill(void) {
         memcpy(before, nodes, sizeof before);
         number = spanwhistle_less_than(SPANWHISTLE_LENT(forecourt), TEMPERATURE, key, &id);
     }
-    printf("a full table: %u\n", (unsigned)number);
+    printf("a full table: %s\n", spanwhistle_name(number));
     must_be("full", number, SPANWHISTLE_NO_ROOM);
     must_be("the id beside a refusal", id, SPANWHISTLE_FALSE);
     must_be("records as found", memcmp(before, nodes, sizeof before) == 0, 1);

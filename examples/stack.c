@@ -1,6 +1,7 @@
-// How much stack does a call of the kernel take? Runs each kind of call on conditions over all 64 variables, on a stack of its own that
-// was painted, and looks how far the paint is gone. Ends with status 1 where a call took more than spanwhistle.h says. It shows what these
-// calls took with this compiler on this machine, and not that no call takes more. A figure has the frame of the calling function in it.
+// How much stack does a call of the kernel take? Runs each kind of call on conditions over 2 to 64 variables, on a stack of its own that
+// was painted, and looks how far the paint is gone. Ends with status 1 where a call took more than spanwhistle.h says for so many variables.
+// It shows what these calls took with this compiler on this machine, and not that no call takes more. A figure has the frame of the calling
+// function in it.
 #define _XOPEN_SOURCE 600
 #include "spanwhistle.h"
 #include <stdio.h>
@@ -17,16 +18,15 @@ static uint32_t memo[SPANWHISTLE_MEMO_WORDS(ROOM)];
 static int64_t cuts[EDGES], places[SPANWHISTLE_RANGE_VARIABLES];
 #define LENT nodes, SPANWHISTLE_NODE_WORDS(ROOM), children, EDGES, cuts, EDGES, index_words, SPANWHISTLE_INDEX_WORDS(ROOM)
 #define MEMO memo, SPANWHISTLE_MEMO_WORDS(ROOM)
-#define LAST_RANGE (SPANWHISTLE_RANGE_VARIABLES - 1)
-#define LAST_BOOLEAN (SPANWHISTLE_VARIABLES - 1)
 
-// Two conditions that no opening test settles at any variable but the last; and what a measured call returned and wrote.
-static uint32_t x = SPANWHISTLE_TRUE, y = SPANWHISTLE_FALSE, number, answer;
+// Two conditions that no opening test settles at any variable but the last; the last variable of each kind that they test; and what a
+// measured call returned and wrote.
+static uint32_t x, y, last_range, last_boolean, number, answer;
 static size_t used_nodes, used_edges;
 static unsigned char stack[1 << 20];
 static void must_be_done(const char *what, uint32_t told) {
     if (told != SPANWHISTLE_DONE) {
-        printf("%s: refused with %u\n", what, (unsigned)told);
+        printf("%s: %s\n", what, spanwhistle_name(told));
         exit(1);
     }
 }
@@ -37,16 +37,23 @@ static uint32_t both(uint32_t a, uint32_t b) {
     return id;
 }
 
-// Booleans, last first: x says that all are yes, y that an odd number is. Then ranges, last first: each below 0 for x, below 1 for y.
-static void build(void) {
+// Conditions over so many variables: ranges as far as there are, since they take the most, and at least one boolean. Booleans, last first: x
+// says that all are yes, y that an odd number is. Then ranges, last first: each below 0 for x, below 1 for y.
+static void build(uint32_t variables) {
+    uint32_t ranges = variables - 1 < SPANWHISTLE_RANGE_VARIABLES ? variables - 1 : SPANWHISTLE_RANGE_VARIABLES;
     uint32_t variable, a, b;
-    for (variable = SPANWHISTLE_VARIABLES; variable-- > SPANWHISTLE_RANGE_VARIABLES;) {
+    last_range = ranges - 1;
+    last_boolean = SPANWHISTLE_RANGE_VARIABLES + (variables - ranges) - 1;
+    x = SPANWHISTLE_TRUE;
+    y = SPANWHISTLE_FALSE;
+    must_be_done("fresh", spanwhistle_fresh(LENT));
+    for (variable = last_boolean + 1; variable-- > SPANWHISTLE_RANGE_VARIABLES;) {
         must_be_done("from_bool", spanwhistle_from_bool(LENT, variable, &a));
         must_be_done("or", spanwhistle_or(LENT, MEMO, a, y, &b));
         x = both(a, x);
         y = both(b, spanwhistle_not(both(a, y)));
     }
-    for (variable = SPANWHISTLE_RANGE_VARIABLES; variable-- > 0;) {
+    for (variable = ranges; variable-- > 0;) {
         must_be_done("less_than", spanwhistle_less_than(LENT, variable, 0, &a));
         must_be_done("less_than", spanwhistle_less_than(LENT, variable, 1, &b));
         x = both(a, x);
@@ -59,36 +66,38 @@ static void build(void) {
     static void call_##name(void) { number = spanwhistle_##name(__VA_ARGS__); }
 CALL(and, LENT, MEMO, x, y, &answer)
 CALL(or, LENT, MEMO, x, y, &answer)
-CALL(restrict, LENT, MEMO, y, LAST_BOOLEAN, 1, &answer)
-CALL(narrow, LENT, MEMO, y, LAST_RANGE, SPANWHISTLE_INCLUDES, 0, SPANWHISTLE_INCLUDES, 5, &answer)
-CALL(widen, LENT, MEMO, y, LAST_RANGE, SPANWHISTLE_INCLUDES, -5, SPANWHISTLE_INCLUDES, 5, &answer)
+CALL(restrict, LENT, MEMO, y, last_boolean, 1, &answer)
+CALL(narrow, LENT, MEMO, y, last_range, SPANWHISTLE_INCLUDES, 0, SPANWHISTLE_INCLUDES, 5, &answer)
+CALL(widen, LENT, MEMO, y, last_range, SPANWHISTLE_INCLUDES, -5, SPANWHISTLE_INCLUDES, 5, &answer)
 CALL(is_disjoint, LENT, x, y, &answer)
 CALL(equal, LENT, 0, 7, &answer)
 CALL(from_range, LENT, 0, SPANWHISTLE_INCLUDES, 7, SPANWHISTLE_EXCLUDES, 9, &answer)
 CALL(evaluate, LENT, places, SPANWHISTLE_RANGE_VARIABLES, 0, y, &answer)
 CALL(check, LENT, &used_nodes, &used_edges)
 CALL(fresh, LENT)
-CALL(from_bool, LENT, LAST_BOOLEAN, &answer)
+CALL(from_bool, LENT, last_boolean, &answer)
 
-// What to run, in this order: from_bool stands behind fresh, so that it makes its node.
+// What to run, in this order, and how much the header says is enough for all 64 variables and for each: from_bool stands behind fresh, so that
+// it makes its node.
 static const struct {
     const char *name;
     void (*call)(void);
-    size_t enough;
+    size_t enough, base, each;
 } calls[] = {
-    {"and", call_and, SPANWHISTLE_STACK_JOIN},
-    {"or", call_or, SPANWHISTLE_STACK_JOIN},
-    {"restrict", call_restrict, SPANWHISTLE_STACK_RESTRICT},
-    {"narrow", call_narrow, SPANWHISTLE_STACK_NARROW},
-    {"widen", call_widen, SPANWHISTLE_STACK_NARROW},
-    {"is_disjoint", call_is_disjoint, SPANWHISTLE_STACK_DISJOINT},
-    {"equal", call_equal, SPANWHISTLE_STACK_CONDITION},
-    {"from_range", call_from_range, SPANWHISTLE_STACK_CONDITION},
-    {"evaluate", call_evaluate, SPANWHISTLE_STACK_READ},
-    {"check", call_check, SPANWHISTLE_STACK_READ},
-    {"fresh", call_fresh, SPANWHISTLE_STACK_READ},
-    {"from_bool", call_from_bool, SPANWHISTLE_STACK_CONDITION},
+    {"and", call_and, SPANWHISTLE_STACK_JOIN, SPANWHISTLE_STACK_JOIN_OF(0), SPANWHISTLE_STACK_JOIN_OF(1)},
+    {"or", call_or, SPANWHISTLE_STACK_JOIN, SPANWHISTLE_STACK_JOIN_OF(0), SPANWHISTLE_STACK_JOIN_OF(1)},
+    {"restrict", call_restrict, SPANWHISTLE_STACK_RESTRICT, SPANWHISTLE_STACK_RESTRICT_OF(0), SPANWHISTLE_STACK_RESTRICT_OF(1)},
+    {"narrow", call_narrow, SPANWHISTLE_STACK_NARROW, SPANWHISTLE_STACK_NARROW_OF(0), SPANWHISTLE_STACK_NARROW_OF(1)},
+    {"widen", call_widen, SPANWHISTLE_STACK_NARROW, SPANWHISTLE_STACK_NARROW_OF(0), SPANWHISTLE_STACK_NARROW_OF(1)},
+    {"is_disjoint", call_is_disjoint, SPANWHISTLE_STACK_DISJOINT, SPANWHISTLE_STACK_DISJOINT_OF(0), SPANWHISTLE_STACK_DISJOINT_OF(1)},
+    {"equal", call_equal, SPANWHISTLE_STACK_CONDITION, SPANWHISTLE_STACK_CONDITION, SPANWHISTLE_STACK_CONDITION},
+    {"from_range", call_from_range, SPANWHISTLE_STACK_CONDITION, SPANWHISTLE_STACK_CONDITION, SPANWHISTLE_STACK_CONDITION},
+    {"evaluate", call_evaluate, SPANWHISTLE_STACK_READ, SPANWHISTLE_STACK_READ, SPANWHISTLE_STACK_READ},
+    {"check", call_check, SPANWHISTLE_STACK_READ, SPANWHISTLE_STACK_READ, SPANWHISTLE_STACK_READ},
+    {"fresh", call_fresh, SPANWHISTLE_STACK_READ, SPANWHISTLE_STACK_READ, SPANWHISTLE_STACK_READ},
+    {"from_bool", call_from_bool, SPANWHISTLE_STACK_CONDITION, SPANWHISTLE_STACK_CONDITION, SPANWHISTLE_STACK_CONDITION},
 };
+#define CALLS (sizeof calls / sizeof calls[0])
 
 // The bytes that a call wrote of a painted stack, from its top to the last one that is not paint.
 static size_t stack_of(void (*call)(void)) {
@@ -107,13 +116,18 @@ static size_t stack_of(void (*call)(void)) {
 }
 
 int main(void) {
+    static const uint32_t counts[] = {2, 4, 8, 16, 32, 33, 48, 64};
     int status = 0;
-    build();
-    for (size_t i = 0; i < sizeof calls / sizeof calls[0]; i++) {
-        size_t took = stack_of(calls[i].call);
-        must_be_done(calls[i].name, number);
-        printf("%-12s %7zu bytes of stack, of %zu\n", calls[i].name, took, calls[i].enough);
-        status |= took > calls[i].enough;
+    for (size_t k = 0; k < sizeof counts / sizeof counts[0]; k++) {
+        build(counts[k]);
+        for (size_t i = 0; i < CALLS; i++) {
+            size_t enough = calls[i].base + counts[k] * (calls[i].each - calls[i].base);
+            size_t took = stack_of(calls[i].call);
+            must_be_done(calls[i].name, number);
+            enough = enough < calls[i].enough ? enough : calls[i].enough;
+            printf("%-12s %7zu bytes of stack, of %zu, for %u variables\n", calls[i].name, took, enough, (unsigned)counts[k]);
+            status |= took > enough;
+        }
     }
     return status;
 }

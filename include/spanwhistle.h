@@ -1,6 +1,7 @@
 /*
  * Spanwhistle: compares the conditions of correction rules exactly. This header is for C99 and C++; link target/staticlib/libspanwhistle.a,
- * which `rt staticlib spanwhistle` makes. The archive needs memcpy and memset and nothing else.
+ * which `rt staticlib spanwhistle` makes, or `tools/install` with a pkg-config file. The archive needs memcpy and memset and nothing else. It
+ * has 28 KB of code and constants, if all calls are linked, and no data (28,149, 0 and 0 bytes of text, data and bss by `size`, x86-64).
  *
  * WHAT A TABLE IS
  *
@@ -16,6 +17,8 @@
  *
  * Memory that is all zero is an empty table; spanwhistle_fresh makes one of any memory. docs/LAYOUT.md tells every word.
  * Lengths are the only thing that says how large a table is: nothing is kept anywhere else, so nothing else can be wrong.
+ * The words are in the machine's own byte order: a table that was written on a machine of the other order is another table, and is
+ * refused unless it happens to be sound. Store the order beside a table that travels.
  *
  * An id belongs to the table that it was made in. In one table two conditions say the same exactly when they have the same id. Ids stay
  * right while the table grows, and are good for storing beside it. Every table has the ids SPANWHISTLE_TRUE and SPANWHISTLE_FALSE.
@@ -30,7 +33,7 @@
  *
  * Every call but spanwhistle_not returns one of the numbers 0 to 6 below. 0 means done; any other is a refusal, and then the table is, word
  * for word, as you lent it. Tests go in the order 1 to 6, and the first that fails decides. Every call that is lent a table, but
- * spanwhistle_fresh, tests all of it, since any of it may be damaged.
+ * spanwhistle_fresh, tests all of it, since any word of it may be wrong. spanwhistle_name has the numbers in words.
  * Out-parameters are always written, also beside a refusal: an id is then SPANWHISTLE_FALSE, a yes-or-no is 0 (no), a count is 0.
  *
  * WHAT A CALLER MUST NOT DO
@@ -53,9 +56,19 @@
  * Calls that walk down a table call themselves, once for each variable on the way, and most of them with an array of 64 edges each time
  * (`and` and `or` at range variables alone). They need a deep stack. Enough in our deepest test were 92,504 bytes for `restrict`, 83,384
  * for `and` and `or`, 53,112 for `widen`, 48,968 for `narrow`, 11,336 for `is_disjoint`, 2,616 for a condition and 400 for the rest. The
- * test is examples/stack.c: conditions over all 64 variables, on x86-64 with this project's compiler. Fewer variables take less. It is
- * measured and not proved, and another machine has other figures. SPANWHISTLE_STACK_JOIN and the like are these, rounded up; what
- * interrupts need on the same stack comes on top.
+ * test is examples/stack.c: conditions over all 64 variables, on x86-64 with this project's compiler. It is measured and not proved, and
+ * another machine has other figures. SPANWHISTLE_STACK_JOIN and the like are these, rounded up. Conditions that test fewer variables take less:
+ *
+ *     variables         2       4       8      16      32      64
+ *     and, or       3,800   7,736  15,608  31,352  62,840  83,384
+ *     restrict      4,216   7,064  12,760  24,152  46,936  92,504
+ *     narrow        4,328   7,208  12,968  24,488  47,528  48,968
+ *     widen         8,472  11,352  17,112  28,632  51,672  53,112
+ *     is_disjoint     424     776   1,480   2,888   5,704  11,336
+ *
+ * where all variables but one are ranges, as far as there are: a boolean takes `and` and `or` less, and narrow and widen go no deeper than
+ * their variable. SPANWHISTLE_STACK_JOIN_OF(V) and the like are enough for V variables in the same test. What interrupts need on the same stack
+ * comes on top.
  */
 #ifndef SPANWHISTLE_H
 #define SPANWHISTLE_H
@@ -67,14 +80,42 @@
 extern "C" {
 #endif
 
+/* The version of this header and of its archive. The last number rises where nothing changes that a caller sees, the middle one where
+   something is added, the first where callers have to change. Before 1.0 the middle one rises for either. */
+#define SPANWHISTLE_VERSION_MAJOR 0
+#define SPANWHISTLE_VERSION_MINOR 2
+#define SPANWHISTLE_VERSION_PATCH 0
+#define SPANWHISTLE_VERSION "0.2.0"
+
+/* A number that nobody looks at may be a refusal: compilers that can warn of it do. */
+#if defined(__GNUC__)
+#define SPANWHISTLE_MUST_USE __attribute__((warn_unused_result))
+#else
+#define SPANWHISTLE_MUST_USE
+#endif
+
 /* The numbers that calls return. */
 #define SPANWHISTLE_DONE 0u
 #define SPANWHISTLE_BAD_LENGTH 1u   /* the length of an array is none of those above, or the lengths do not go together */
-#define SPANWHISTLE_NOT_SOUND 2u    /* the table is damaged: some word is not as it must be */
+#define SPANWHISTLE_NOT_SOUND 2u    /* the table is not sound: some word is not as it must be */
 #define SPANWHISTLE_UNKNOWN_ID 3u   /* an id is neither TRUE nor FALSE nor of a node that this table has */
 #define SPANWHISTLE_BAD_VARIABLE 4u /* a variable is 64 or more, or a boolean where a range is asked, or the other way round */
 #define SPANWHISTLE_BAD_PLACE 5u    /* a place of a reading lies outside the lowest and the highest */
 #define SPANWHISTLE_NO_ROOM 6u      /* no sound table that goes on from this one has room for the answer, with at most 64 edges a node */
+
+/* A number that a call returned, in words, for a log: "refusal 6: there is no room for the answer". */
+static inline const char *spanwhistle_name(uint32_t number) {
+    switch (number) {
+    case SPANWHISTLE_DONE: return "done";
+    case SPANWHISTLE_BAD_LENGTH: return "refusal 1: a length is not allowed";
+    case SPANWHISTLE_NOT_SOUND: return "refusal 2: the table is not sound";
+    case SPANWHISTLE_UNKNOWN_ID: return "refusal 3: the table has no such id";
+    case SPANWHISTLE_BAD_VARIABLE: return "refusal 4: there is no such variable of this kind";
+    case SPANWHISTLE_BAD_PLACE: return "refusal 5: a place lies beyond the ends";
+    case SPANWHISTLE_NO_ROOM: return "refusal 6: there is no room for the answer";
+    default: return "no number that a call of this version returns";
+    }
+}
 
 /* Rooms: the most that a table may have, the least, and the lengths of its arrays for room for R nodes. */
 #define SPANWHISTLE_MOST_NODES 4096u
@@ -112,6 +153,12 @@ extern "C" {
 #define SPANWHISTLE_STACK_CONDITION (3u * 1024u) /* the six comparisons, spanwhistle_from_range, spanwhistle_from_bool */
 #define SPANWHISTLE_STACK_READ 1024u             /* spanwhistle_check, spanwhistle_fresh, spanwhistle_evaluate, spanwhistle_not */
 
+/* The same where the conditions test no more than V variables between them. */
+#define SPANWHISTLE_STACK_JOIN_OF(V) (512u + 2000u * (V))
+#define SPANWHISTLE_STACK_RESTRICT_OF(V) (2048u + 1440u * (V))
+#define SPANWHISTLE_STACK_NARROW_OF(V) (6144u + 1456u * (V))
+#define SPANWHISTLE_STACK_DISJOINT_OF(V) (512u + 184u * (V))
+
 /* A table that you lend, to write it once: `spanwhistle_and(SPANWHISTLE_LENT(t), memo, memo_len, x, y, &id)`. */
 typedef struct spanwhistle_table {
     uint32_t *nodes;
@@ -143,6 +190,7 @@ typedef struct spanwhistle_table {
  * Makes the table empty, whatever the memory held.
  * Returns 0, or 1 where a length is not allowed. Writes zero to every word of the four arrays beside 0, and nothing beside 1.
  */
+SPANWHISTLE_MUST_USE
 uint32_t spanwhistle_fresh(SPANWHISTLE_LENDS);
 
 /*
@@ -151,6 +199,7 @@ uint32_t spanwhistle_fresh(SPANWHISTLE_LENDS);
  * It is quick, unless someone built the table so that its nodes share one place of the index: then it is slow (0.1 s, docs/TESTING.md), and
  * still right.
  */
+SPANWHISTLE_MUST_USE
 uint32_t spanwhistle_check(SPANWHISTLE_SHOWS, size_t *used_nodes, size_t *used_edges);
 
 /*
@@ -158,6 +207,7 @@ uint32_t spanwhistle_check(SPANWHISTLE_SHOWS, size_t *used_nodes, size_t *used_e
  * are looked at, whether the condition tests them or not. Bit i of `bools` is variable 32 + i.
  * Returns 0, or 1 (also where places_len is not 32), 2, 3 or 5. Writes 1 (yes) or 0 (no) to `yes`, and 0 beside a refusal; not the table.
  */
+SPANWHISTLE_MUST_USE
 uint32_t spanwhistle_evaluate(SPANWHISTLE_SHOWS, const int64_t *places, size_t places_len, uint32_t bools, uint32_t id, uint32_t *yes);
 
 /* ---- Conditions ---- */
@@ -167,17 +217,23 @@ uint32_t spanwhistle_evaluate(SPANWHISTLE_SHOWS, const int64_t *places, size_t p
  * Each returns 0, or 1, 2, 4 (no range variable: 32 or more) or 6. Each writes the id, SPANWHISTLE_FALSE beside a refusal, and beside 0
  * adds the node of the condition to the table, unless it is there already.
  */
+SPANWHISTLE_MUST_USE
 uint32_t spanwhistle_equal(SPANWHISTLE_LENDS, uint32_t variable, int32_t key, uint32_t *id);
 uint32_t spanwhistle_not_equal(SPANWHISTLE_LENDS, uint32_t variable, int32_t key, uint32_t *id);
+SPANWHISTLE_MUST_USE
 uint32_t spanwhistle_less_than(SPANWHISTLE_LENDS, uint32_t variable, int32_t key, uint32_t *id);
+SPANWHISTLE_MUST_USE
 uint32_t spanwhistle_less_equal(SPANWHISTLE_LENDS, uint32_t variable, int32_t key, uint32_t *id);
+SPANWHISTLE_MUST_USE
 uint32_t spanwhistle_greater_than(SPANWHISTLE_LENDS, uint32_t variable, int32_t key, uint32_t *id);
+SPANWHISTLE_MUST_USE
 uint32_t spanwhistle_greater_equal(SPANWHISTLE_LENDS, uint32_t variable, int32_t key, uint32_t *id);
 
 /*
  * The condition that range variable `variable` lies within two bounds, each a kind and a key. Both open is TRUE; crossed bounds are FALSE.
  * Returns and writes as the comparisons do.
  */
+SPANWHISTLE_MUST_USE
 uint32_t spanwhistle_from_range(SPANWHISTLE_LENDS, uint32_t variable, uint32_t lower_kind, int32_t lower_key, uint32_t upper_kind,
                                 int32_t upper_key, uint32_t *id);
 
@@ -185,6 +241,7 @@ uint32_t spanwhistle_from_range(SPANWHISTLE_LENDS, uint32_t variable, uint32_t l
  * The condition that boolean variable `variable` is yes; spanwhistle_not of its id is the condition that it is no.
  * Returns 0, or 1, 2, 4 (no boolean variable: below 32, or 64 or more) or 6. Writes as the comparisons do.
  */
+SPANWHISTLE_MUST_USE
 uint32_t spanwhistle_from_bool(SPANWHISTLE_LENDS, uint32_t variable, uint32_t *id);
 
 /* ---- Operations ---- */
@@ -193,6 +250,7 @@ uint32_t spanwhistle_from_bool(SPANWHISTLE_LENDS, uint32_t variable, uint32_t *i
  * The opposite of a condition: the id with its lowest bit flipped. It needs no table, so it tests nothing and refuses nothing: of an
  * unknown id it makes an unknown id. It is the one call that returns an id.
  */
+SPANWHISTLE_MUST_USE
 uint32_t spanwhistle_not(uint32_t id);
 
 /*
@@ -201,14 +259,19 @@ uint32_t spanwhistle_not(uint32_t id);
  * Beside 0 it adds to the table the nodes of the answer that are missing, and no other. Beside 0 and 6 the memo is all zero after the call;
  * beside another refusal it is as it was.
  */
+SPANWHISTLE_MUST_USE
 uint32_t spanwhistle_and(SPANWHISTLE_LENDS, uint32_t *memo, size_t memo_len, uint32_t x, uint32_t y, uint32_t *id);
+SPANWHISTLE_MUST_USE
 uint32_t spanwhistle_or(SPANWHISTLE_LENDS, uint32_t *memo, size_t memo_len, uint32_t x, uint32_t y, uint32_t *id);
 
 /*
  * Are x and y apart, so that no reading makes both hold? Two rules whose conditions are apart never correct the same delivery.
  * Returns 0, or 1, 2 or 3. Writes 1 (yes, apart) or 0 (no, they overlap) to `yes`, and 0 beside a refusal; not the table.
- * It has no memo: of large conditions that share much of their shape it may take long (its work may double with each variable).
+ * It has no memo: of large conditions that share much of their shape it may take long (its work may double with each variable; two rules
+ * over 63 variables, in 2 KB of text, had no answer after two minutes). The way out is spanwhistle_and, which has a memo: x and y are apart
+ * exactly when it writes SPANWHISTLE_FALSE. Where it is told 6 they overlap: every table holds FALSE, so the answer is another.
  */
+SPANWHISTLE_MUST_USE
 uint32_t spanwhistle_is_disjoint(SPANWHISTLE_SHOWS, uint32_t x, uint32_t y, uint32_t *yes);
 
 /*
@@ -216,6 +279,7 @@ uint32_t spanwhistle_is_disjoint(SPANWHISTLE_SHOWS, uint32_t x, uint32_t y, uint
  * variable. A range variable leaves x as it is.
  * Returns 0, or 1, 2, 3, 4 (variable 64 or more) or 6. Writes as spanwhistle_and does.
  */
+SPANWHISTLE_MUST_USE
 uint32_t spanwhistle_restrict(SPANWHISTLE_LENDS, uint32_t *memo, size_t memo_len, uint32_t x, uint32_t variable, uint32_t value,
                               uint32_t *id);
 
@@ -224,6 +288,7 @@ uint32_t spanwhistle_restrict(SPANWHISTLE_LENDS, uint32_t *memo, size_t memo_len
  * the nearest place inside. With bounds that hold no place it is FALSE wherever x still changes with the variable, and x elsewhere.
  * Returns 0, or 1, 2, 3, 4 (no range variable: 32 or more) or 6. Writes as spanwhistle_and does.
  */
+SPANWHISTLE_MUST_USE
 uint32_t spanwhistle_narrow(SPANWHISTLE_LENDS, uint32_t *memo, size_t memo_len, uint32_t x, uint32_t variable, uint32_t lower_kind,
                             int32_t lower_key, uint32_t upper_kind, int32_t upper_key, uint32_t *id);
 
@@ -231,6 +296,7 @@ uint32_t spanwhistle_narrow(SPANWHISTLE_LENDS, uint32_t *memo, size_t memo_len, 
  * The condition that x holds and range variable `variable` lies within two bounds. No node is made for the bounds by themselves.
  * Bounds that hold no place give FALSE. Returns and writes as spanwhistle_narrow does.
  */
+SPANWHISTLE_MUST_USE
 uint32_t spanwhistle_widen(SPANWHISTLE_LENDS, uint32_t *memo, size_t memo_len, uint32_t x, uint32_t variable, uint32_t lower_kind,
                            int32_t lower_key, uint32_t upper_kind, int32_t upper_key, uint32_t *id);
 

@@ -1,4 +1,5 @@
-//! Links the kernel, libspanwhistle.a, from the folder that SPANWHISTLE_LIB names, or from where `rt staticlib spanwhistle` puts it.
+//! Links the kernel, libspanwhistle.a, from the folder that SPANWHISTLE_LIB names, or from where `rt staticlib spanwhistle` puts it. Where
+//! it is not there this only warns, so that `cargo doc` and `cargo check` do without it; what links then fails, after the warning.
 use std::env;
 use std::path::PathBuf;
 
@@ -10,12 +11,13 @@ fn main() {
             .join("../target/staticlib"),
     };
     let archive = folder.join("libspanwhistle.a");
-    assert!(
-        archive.exists(),
-        "{} is not there: run `rt staticlib spanwhistle`, or set SPANWHISTLE_LIB to its folder",
-        archive.display()
-    );
     println!("cargo:rerun-if-changed={}", archive.display());
+    if !archive.exists() {
+        println!(
+            "cargo:warning={} is not there: run `rt staticlib spanwhistle`, or set SPANWHISTLE_LIB to its folder",
+            archive.display()
+        );
+    }
     println!("cargo:rustc-link-search=native={}", folder.display());
     println!("cargo:rustc-link-lib=static=spanwhistle");
 }

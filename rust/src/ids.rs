@@ -1,5 +1,6 @@
 //! Ids of conditions.
 use crate::sys;
+use core::fmt;
 use core::ops::Not;
 
 /// The id of a condition. In one table, two conditions say the same exactly when they have the same id.
@@ -14,6 +15,7 @@ use core::ops::Not;
 /// assert_eq!(!NodeId::TRUE, NodeId::FALSE);
 /// let stored = NodeId::from_number(10);
 /// assert_eq!((!stored).number(), 11);
+/// assert_eq!(stored.to_string(), "10");
 /// ```
 #[derive(Clone, Copy, Debug, PartialEq, Eq, Hash, PartialOrd, Ord)]
 pub struct NodeId(u32);
@@ -41,5 +43,12 @@ impl Not for NodeId {
 
     fn not(self) -> NodeId {
         sys::not(self)
+    }
+}
+
+/// The number of the id, as reports and the documents write it.
+impl fmt::Display for NodeId {
+    fn fmt(&self, f: &mut fmt::Formatter<'_>) -> fmt::Result {
+        fmt::Display::fmt(&self.0, f)
     }
 }

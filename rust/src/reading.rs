@@ -43,7 +43,11 @@ pub struct Reading {
 }
 
 impl Reading {
-    /// Puts a range variable at a place. Refused for any other variable; any place is taken.
+    /// Puts a range variable at a place. Any place is taken.
+    ///
+    /// # Errors
+    ///
+    /// `BadVariable`, where the variable is 32 or more.
     pub fn set_place(&mut self, variable: u32, place: i64) -> Result<(), Refusal> {
         match self.places.get_mut(variable as usize) {
             Some(slot) => {
@@ -54,17 +58,29 @@ impl Reading {
         }
     }
 
-    /// Puts a range variable exactly at a key. Refused for any other variable.
+    /// Puts a range variable exactly at a key.
+    ///
+    /// # Errors
+    ///
+    /// `BadVariable`, where the variable is 32 or more.
     pub fn set_key(&mut self, variable: u32, key: i32) -> Result<(), Refusal> {
         self.set_place(variable, place(key))
     }
 
-    /// Puts a range variable between a key and the next one. Refused for any other variable.
+    /// Puts a range variable between a key and the next one.
+    ///
+    /// # Errors
+    ///
+    /// `BadVariable`, where the variable is 32 or more.
     pub fn set_above(&mut self, variable: u32, key: i32) -> Result<(), Refusal> {
         self.set_place(variable, place_above(key))
     }
 
-    /// Sets a boolean variable. Refused for any other variable.
+    /// Sets a boolean variable.
+    ///
+    /// # Errors
+    ///
+    /// `BadVariable`, where the variable is below 32, or 64 or more.
     pub fn set_bool(&mut self, variable: u32, value: bool) -> Result<(), Refusal> {
         let variable = variable as usize;
         if !(RANGE_VARIABLES..VARIABLES).contains(&variable) {

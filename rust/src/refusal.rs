@@ -9,11 +9,16 @@ use core::fmt;
 /// assert_eq!(Refusal::NoRoom.number(), 6);
 /// assert_eq!(Refusal::NoRoom.to_string(), "refusal 6: there is no room for the answer");
 /// ```
+///
+/// With feature `std` it is a `std::error::Error`, so that `?` takes it into a `Box<dyn Error>`.
+///
+/// Later versions may refuse by further numbers, so a `match` on it has an arm for the rest.
 #[derive(Clone, Copy, Debug, PartialEq, Eq, Hash)]
+#[non_exhaustive]
 pub enum Refusal {
     /// A length is none that a table may have, or the lengths do not go together.
     BadLength = 1,
-    /// The table is damaged: some word is not as it must be.
+    /// The table is not sound: some word is not as it must be.
     NotSound = 2,
     /// An id is neither TRUE nor FALSE nor of a node that this table has.
     UnknownId = 3,
@@ -45,6 +50,9 @@ impl fmt::Display for Refusal {
         write!(f, "refusal {}: {}", self.number(), why)
     }
 }
+
+#[cfg(feature = "std")]
+impl std::error::Error for Refusal {}
 
 /// What a call answered, by the number that it returned. The kernel returns no number above 6; were another archive linked that does, the
 /// last arm stops the program, and nothing is made of a number that has no meaning.

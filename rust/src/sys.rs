@@ -10,12 +10,13 @@
 //! - an out-parameter is a local variable of the function that calls.
 //!
 //! The kernel keeps no pointer when a call has returned, and it does not unwind.
-use crate::conditions::{Bound, Comparison};
+use crate::conditions::{Comparison, Ends};
 use crate::ids::NodeId;
 use crate::reading::Reading;
 use crate::refusal::{told, Refusal};
 use crate::room::Used;
 use crate::table::Table;
+use crate::view::View;
 
 /// Declares functions that begin with the eight parameters of a table: `mut` where the call may write it, `const` where it only reads.
 macro_rules! declare {
@@ -91,10 +92,10 @@ macro_rules! lend {
     };
 }
 
-/// Calls a function that only reads the table `$table: &Table`, with further arguments, and gives the number that it returned.
+/// Calls a function that only reads the table `$table: View`, with further arguments, and gives the number that it returned.
 macro_rules! show {
     ($function:expr, $table:expr $(, $argument:expr)*) => {
-        // SAFETY: the slices are those of a `&Table`, so nobody writes them while the call runs, and the call does not; pointers among the
+        // SAFETY: the slices are those of a `View`, so nobody writes them while the call runs, and the call does not; pointers among the
         // further arguments are of a `&` array with its length, or of a local variable. So all that the head of this file lists holds.
         unsafe {
             $function(
@@ -130,13 +131,13 @@ pub fn fresh(table: &mut Table) -> Result<(), Refusal> {
     told(lend!(spanwhistle_fresh, table), ())
 }
 
-pub fn check(table: &Table) -> Result<Used, Refusal> {
+pub fn check(table: View) -> Result<Used, Refusal> {
     let mut used = Used { nodes: 0, edges: 0 };
     let number = show!(spanwhistle_check, table, &mut used.nodes, &mut used.edges);
     told(number, used)
 }
 
-pub fn evaluate(table: &Table, reading: &Reading, id: NodeId) -> Result<bool, Refusal> {
+pub fn evaluate(table: View, reading: &Reading, id: NodeId) -> Result<bool, Refusal> {
     let places = &reading.places;
     let mut yes = 0;
     let number = show!(
@@ -151,7 +152,7 @@ pub fn evaluate(table: &Table, reading: &Reading, id: NodeId) -> Result<bool, Re
     told(number, yes != 0)
 }
 
-pub fn is_disjoint(table: &Table, x: NodeId, y: NodeId) -> Result<bool, Refusal> {
+pub fn is_disjoint(table: View, x: NodeId, y: NodeId) -> Result<bool, Refusal> {
     let mut yes = 0;
     let number = show!(
         spanwhistle_is_disjoint,
@@ -180,20 +181,15 @@ pub fn from_comparison(
     id_of!(function, table, variable, key)
 }
 
-pub fn from_range(
-    table: &mut Table,
-    variable: u32,
-    lower: Bound,
-    upper: Bound,
-) -> Result<NodeId, Refusal> {
+pub fn from_range(table: &mut Table, variable: u32, ends: Ends) -> Result<NodeId, Refusal> {
     id_of!(
         spanwhistle_from_range,
         table,
         variable,
-        lower.kind(),
-        lower.key(),
-        upper.kind(),
-        upper.key()
+        ends.lower_kind,
+        ends.lower_key,
+        ends.upper_kind,
+        ends.upper_key
     )
 }
 
@@ -246,8 +242,7 @@ pub fn narrow(
     memo: &mut [u32],
     x: NodeId,
     variable: u32,
-    lower: Bound,
-    upper: Bound,
+    ends: Ends,
 ) -> Result<NodeId, Refusal> {
     id_of!(
         spanwhistle_narrow,
@@ -256,10 +251,10 @@ pub fn narrow(
         memo.len(),
         x.number(),
         variable,
-        lower.kind(),
-        lower.key(),
-        upper.kind(),
-        upper.key()
+        ends.lower_kind,
+        ends.lower_key,
+        ends.upper_kind,
+        ends.upper_key
     )
 }
 
@@ -268,8 +263,7 @@ pub fn widen(
     memo: &mut [u32],
     x: NodeId,
     variable: u32,
-    lower: Bound,
-    upper: Bound,
+    ends: Ends,
 ) -> Result<NodeId, Refusal> {
     id_of!(
         spanwhistle_widen,
@@ -278,9 +272,9 @@ pub fn widen(
         memo.len(),
         x.number(),
         variable,
-        lower.kind(),
-        lower.key(),
-        upper.kind(),
-        upper.key()
+        ends.lower_kind,
+        ends.lower_key,
+        ends.upper_kind,
+        ends.upper_key
     )
 }

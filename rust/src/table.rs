@@ -1,20 +1,24 @@
 //! A lent table, and the calls on it.
-use crate::conditions::{Bound, Comparison};
+use crate::conditions::{Comparison, Ends};
 use crate::ids::NodeId;
 use crate::reading::Reading;
 use crate::refusal::Refusal;
 use crate::room::Used;
 use crate::sys;
+use crate::view::{write_lengths, View};
+use core::fmt;
+use core::ops::RangeBounds;
 
 /// A table of conditions in memory that the caller lends: four slices, with the lengths of a [`Room`](crate::Room). The words are the
-/// whole table, so it may be dropped and lent again, also after it lay in flash; docs/LAYOUT.md tells every word.
+/// whole table, so it may be dropped and lent again, also after it lay in flash; docs/LAYOUT.md tells every word. A table that nobody
+/// writes is a [`View`].
 ///
 /// Every call tests the whole table first, and then its other arguments, in the order of the refusals' numbers. A refused call leaves the
 /// four slices as they were. Calls that take a `memo` use it as scratch: three words a node of the room, whatever they hold, all zero
 /// after a call that was done or found no room.
 ///
 /// Calls that walk down a table need a deep stack, `restrict` up to 92,504 bytes in our deepest test: include/spanwhistle.h has the
-/// figures and what they are worth.
+/// figures, by the number of variables, and what they are worth.
 ///
 /// ```
 /// use spanwhistle::{Comparison, Reading, Refusal, Room, Table};
@@ -45,7 +49,6 @@ use crate::sys;
 /// let (mut words, mut cuts, mut index) = ([0; 4], [0; 2], [0; 2]);
 /// let table = spanwhistle::Table::lend(&mut words, &mut words, &mut cuts, &mut index);
 /// ```
-#[derive(Debug)]
 pub struct Table<'a> {
     pub(crate) nodes: &'a mut [u32],
     pub(crate) children: &'a mut [u32],
@@ -69,7 +72,16 @@ impl<'a> Table<'a> {
         }
     }
 
-    /// Makes the table empty, whatever the words held. Refused: `BadLength`.
+    /// The same table for reading.
+    pub fn view(&self) -> View<'_> {
+        View::of(self.nodes, self.children, self.cuts, self.index)
+    }
+
+    /// Makes the table empty, whatever the words held.
+    ///
+    /// # Errors
+    ///
+    /// `BadLength`.
     ///
     /// ```
     /// use spanwhistle::{Refusal, Room, Table, Used};
@@ -88,18 +100,29 @@ impl<'a> Table<'a> {
         sys::fresh(self)
     }
 
-    /// Tests the table, as every call does, and tells how much of it is used. Refused: `BadLength`, `NotSound`.
+    /// [`View::check`] of this table.
+    ///
+    /// # Errors
+    ///
+    /// `BadLength`, `NotSound`.
     pub fn check(&self) -> Result<Used, Refusal> {
-        sys::check(self)
+        self.view().check()
     }
 
-    /// Does the condition hold under the reading? Refused: `BadLength`, `NotSound`, `UnknownId`, `BadPlace` (of any variable, whether
-    /// the condition tests it or not).
+    /// [`View::evaluate`] on this table.
+    ///
+    /// # Errors
+    ///
+    /// `BadLength`, `NotSound`, `UnknownId`, `BadPlace`.
     pub fn evaluate(&self, reading: &Reading, id: NodeId) -> Result<bool, Refusal> {
-        sys::evaluate(self, reading, id)
+        self.view().evaluate(reading, id)
     }
 
-    /// The condition that a range variable compares so with a key. Refused: `BadLength`, `NotSound`, `BadVariable`, `NoRoom`.
+    /// The condition that a range variable compares so with a key.
+    ///
+    /// # Errors
+    ///
+    /// `BadLength`, `NotSound`, `BadVariable` (32 or more), `NoRoom`.
     pub fn from_comparison(
         &mut self,
         variable: u32,
@@ -109,54 +132,80 @@ impl<'a> Table<'a> {
         sys::from_comparison(self, variable, comparison, key)
     }
 
-    /// The condition that a range variable lies within two bounds; crossed bounds give FALSE. Refused as a comparison is.
+    /// The condition that a range variable lies within a range of keys, readings between keys included; crossed ends give FALSE.
+    ///
+    /// # Errors
+    ///
+    /// `BadLength`, `NotSound`, `BadVariable` (32 or more), `NoRoom`.
     ///
     /// ```
-    /// use spanwhistle::{Bound, NodeId, Refusal, Room, Table};
+    /// use core::ops::Bound::Excluded;
+    /// use spanwhistle::{NodeId, Refusal, Room, Table};
     ///
     /// const ROOM: Room = Room { nodes: 4, edges: 8 };
     /// let mut nodes = [0; ROOM.node_words()];
     /// let (mut children, mut cuts) = ([0; ROOM.edge_words()], [0; ROOM.edge_words()]);
     /// let mut index = [0; ROOM.index_words()];
     /// let mut table = Table::lend(&mut nodes, &mut children, &mut cuts, &mut index);
+    /// let from_3_to_7 = table.from_range(0, 3..=7)?;
     /// // between 1 and 2 there are readings, though no keys
-    /// let between = table.from_range(0, Bound::Excludes(1), Bound::Excludes(2))?;
+    /// let between = table.from_range(0, (Excluded(1), Excluded(2)))?;
     /// assert_ne!(between, NodeId::FALSE);
-    /// assert_eq!(table.from_range(0, Bound::Includes(7), Bound::Includes(3)), Ok(NodeId::FALSE));
+    /// assert_eq!(table.is_disjoint(from_3_to_7, between), Ok(true));
+    /// # let crossed = table.from_range(0, (core::ops::Bound::Included(7), core::ops::Bound::Included(3)));
+    /// # assert_eq!(crossed, Ok(NodeId::FALSE));
     /// # Ok::<(), Refusal>(())
     /// ```
     pub fn from_range(
         &mut self,
         variable: u32,
-        lower: Bound,
-        upper: Bound,
+        range: impl RangeBounds<i32>,
     ) -> Result<NodeId, Refusal> {
-        sys::from_range(self, variable, lower, upper)
+        sys::from_range(self, variable, Ends::of(range))
     }
 
-    /// The condition that a boolean variable is yes. Refused as a comparison is.
+    /// The condition that a boolean variable is yes.
+    ///
+    /// # Errors
+    ///
+    /// `BadLength`, `NotSound`, `BadVariable` (below 32, or 64 or more), `NoRoom`.
     pub fn from_bool(&mut self, variable: u32) -> Result<NodeId, Refusal> {
         sys::from_bool(self, variable)
     }
 
-    /// The condition that both hold. Refused: `BadLength` (also of the memo), `NotSound`, `UnknownId`, `NoRoom`.
+    /// The condition that both hold. It is FALSE exactly when the two are apart, x exactly when x never holds without y.
+    ///
+    /// # Errors
+    ///
+    /// `BadLength` (also of the memo), `NotSound`, `UnknownId`, `NoRoom`. `NoRoom` is never told where the answer is FALSE, x or y, since
+    /// the table holds these.
     pub fn and(&mut self, memo: &mut [u32], x: NodeId, y: NodeId) -> Result<NodeId, Refusal> {
         sys::and(self, memo, x, y)
     }
 
-    /// The condition that at least one of the two holds. Refused as `and` is.
+    /// The condition that at least one of the two holds.
+    ///
+    /// # Errors
+    ///
+    /// `BadLength` (also of the memo), `NotSound`, `UnknownId`, `NoRoom`.
     pub fn or(&mut self, memo: &mut [u32], x: NodeId, y: NodeId) -> Result<NodeId, Refusal> {
         sys::or(self, memo, x, y)
     }
 
-    /// Are the two apart, so that no reading makes both hold? FALSE is apart from everything, itself included. Refused: `BadLength`,
-    /// `NotSound`, `UnknownId`. It has no memo, and its work may double with each variable.
+    /// [`View::is_disjoint`] on this table. Its work may double with each variable; [`Table::and`] has a memo.
+    ///
+    /// # Errors
+    ///
+    /// `BadLength`, `NotSound`, `UnknownId`.
     pub fn is_disjoint(&self, x: NodeId, y: NodeId) -> Result<bool, Refusal> {
-        sys::is_disjoint(self, x, y)
+        self.view().is_disjoint(x, y)
     }
 
-    /// The condition where a boolean variable is known; a range variable leaves it as it is. Refused: `BadLength` (also of the memo),
-    /// `NotSound`, `UnknownId`, `BadVariable` (64 or more), `NoRoom`.
+    /// The condition where a boolean variable is known; a range variable leaves it as it is.
+    ///
+    /// # Errors
+    ///
+    /// `BadLength` (also of the memo), `NotSound`, `UnknownId`, `BadVariable` (64 or more), `NoRoom`.
     pub fn restrict(
         &mut self,
         memo: &mut [u32],
@@ -167,29 +216,41 @@ impl<'a> Table<'a> {
         sys::restrict(self, memo, id, variable, value)
     }
 
-    /// The condition where a range variable is known to lie within two bounds: outside them it says what it says at the nearest place
-    /// inside. Bounds that hold no place make it FALSE wherever it still changes with the variable. Refused: `BadLength` (also of the
-    /// memo), `NotSound`, `UnknownId`, `BadVariable` (32 or more), `NoRoom`.
+    /// The condition where a range variable is known to lie within a range: outside it the condition says what it says at the nearest place
+    /// inside. A range that holds no place makes it FALSE wherever it still changes with the variable.
+    ///
+    /// # Errors
+    ///
+    /// `BadLength` (also of the memo), `NotSound`, `UnknownId`, `BadVariable` (32 or more), `NoRoom`.
     pub fn narrow(
         &mut self,
         memo: &mut [u32],
         id: NodeId,
         variable: u32,
-        lower: Bound,
-        upper: Bound,
+        range: impl RangeBounds<i32>,
     ) -> Result<NodeId, Refusal> {
-        sys::narrow(self, memo, id, variable, lower, upper)
+        sys::narrow(self, memo, id, variable, Ends::of(range))
     }
 
-    /// The condition, and that a range variable lies within two bounds. Bounds that hold no place give FALSE. Refused as `narrow` is.
+    /// The condition, and that a range variable lies within a range. A range that holds no place gives FALSE.
+    ///
+    /// # Errors
+    ///
+    /// `BadLength` (also of the memo), `NotSound`, `UnknownId`, `BadVariable` (32 or more), `NoRoom`.
     pub fn widen(
         &mut self,
         memo: &mut [u32],
         id: NodeId,
         variable: u32,
-        lower: Bound,
-        upper: Bound,
+        range: impl RangeBounds<i32>,
     ) -> Result<NodeId, Refusal> {
-        sys::widen(self, memo, id, variable, lower, upper)
+        sys::widen(self, memo, id, variable, Ends::of(range))
+    }
+}
+
+/// How long the slices are, and not what they hold.
+impl fmt::Debug for Table<'_> {
+    fn fmt(&self, f: &mut fmt::Formatter<'_>) -> fmt::Result {
+        write_lengths(f, "Table", self.view())
     }
 }

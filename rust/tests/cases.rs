@@ -1,7 +1,7 @@
 //! Document 01, "Ids from a fresh table", case by case. C1 to C12 go in the document's order in one table, and C14 and C15 follow them.
 mod lent;
+use core::ops::Bound::{Excluded, Included, Unbounded};
 use lent::{id, memo_of, Memory, A, B, X};
-use spanwhistle::Bound::{Excludes, Includes, Open};
 use spanwhistle::Comparison::{Equal, GreaterEqual, GreaterThan, LessEqual, LessThan, NotEqual};
 use spanwhistle::{place, NodeId, Reading, Refusal, Room, Used, HIGHEST_PLACE, LOWEST_PLACE};
 
@@ -28,7 +28,7 @@ fn after_c11() -> Memory {
     assert_eq!(table.from_bool(A), Ok(id(8)), "C8");
     assert_eq!(table.and(&mut memo, id(2), id(8)), Ok(id(10)), "C9");
     assert_eq!(table.or(&mut memo, id(2), id(8)), Ok(id(12)), "C10");
-    let between = table.from_range(X, Excludes(1), Excludes(2));
+    let between = table.from_range(X, (Excluded(1), Excluded(2)));
     assert_eq!(between, Ok(id(15)), "C11");
     for key in [1, 2] {
         let point = table.from_comparison(X, Equal, key).expect("room");
@@ -71,7 +71,7 @@ fn c13() -> Result<(), Refusal> {
     let mut table = memory.lend();
     let (a, b) = (table.from_bool(A)?, table.from_bool(B)?);
     let below_1 = table.from_comparison(X, LessThan, 1)?;
-    let from_1_to_2 = table.from_range(X, Includes(1), Excludes(2))?;
+    let from_1_to_2 = table.from_range(X, 1..2)?;
     let a_and_b = table.and(&mut memo, a, b)?;
     let left = table.and(&mut memo, below_1, a)?;
     let right = table.and(&mut memo, from_1_to_2, a_and_b)?;
@@ -89,12 +89,12 @@ fn c14() {
     let mut memo = memo_of(ROOM);
     let mut table = memory.lend();
     for (from, lower, upper, to) in [
-        (7, Includes(5), Includes(5), NodeId::TRUE),
-        (2, Includes(3), Includes(4), NodeId::TRUE),
-        (2, Includes(5), Open, NodeId::FALSE),
-        (2, Includes(3), Includes(7), id(2)),
+        (7, Included(5), Included(5), NodeId::TRUE),
+        (2, Included(3), Included(4), NodeId::TRUE),
+        (2, Included(5), Unbounded, NodeId::FALSE),
+        (2, Included(3), Included(7), id(2)),
     ] {
-        let narrowed = table.narrow(&mut memo, id(from), X, lower, upper);
+        let narrowed = table.narrow(&mut memo, id(from), X, (lower, upper));
         assert_eq!(narrowed, Ok(to), "{from} by {lower:?} {upper:?}");
     }
 }
@@ -104,17 +104,14 @@ fn c15() {
     let mut memory = after_c11();
     let mut memo = memo_of(ROOM);
     let mut table = memory.lend();
-    let (lower, upper) = (Includes(7), Includes(3));
+    let crossed = (Included(7), Included(3));
     for (from, narrowed) in [
         (NodeId::TRUE, NodeId::TRUE),
         (id(2), NodeId::FALSE),
         (id(8), id(8)),
     ] {
-        assert_eq!(table.narrow(&mut memo, from, X, lower, upper), Ok(narrowed));
-        assert_eq!(
-            table.widen(&mut memo, from, X, lower, upper),
-            Ok(NodeId::FALSE)
-        );
+        assert_eq!(table.narrow(&mut memo, from, X, crossed), Ok(narrowed));
+        assert_eq!(table.widen(&mut memo, from, X, crossed), Ok(NodeId::FALSE));
     }
 }
 
@@ -125,10 +122,10 @@ fn widening_and_restriction() -> Result<(), Refusal> {
     let mut memo = memo_of(ROOM);
     let mut table = memory.lend();
     let a = table.from_bool(A)?;
-    let widened = table.widen(&mut memo, a, X, Includes(3), Includes(7))?;
+    let widened = table.widen(&mut memo, a, X, 3..=7)?;
     let below_3 = table.from_comparison(X, LessThan, 3)?;
     assert_eq!(table.is_disjoint(widened, below_3), Ok(true));
-    let within = table.from_range(X, Includes(3), Includes(7))?;
+    let within = table.from_range(X, 3..=7)?;
     assert_eq!(table.and(&mut memo, a, within), Ok(widened));
     assert_eq!(table.restrict(&mut memo, widened, A, true), Ok(within));
     assert_eq!(

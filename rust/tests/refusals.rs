@@ -2,7 +2,6 @@
 //! again.
 mod lent;
 use lent::{id, memo_of, Memory, A, B, X};
-use spanwhistle::Bound::{Includes, Open};
 use spanwhistle::Comparison::{Equal, GreaterEqual, GreaterThan, LessEqual, LessThan, NotEqual};
 use spanwhistle::{NodeId, Reading, Refusal, Room, Table, Used, HIGHEST_PLACE, RANGE_VARIABLES};
 
@@ -15,7 +14,7 @@ fn full() -> Memory {
     let mut table = memory.lend();
     let widened = table
         .from_bool(A)
-        .and_then(|a| table.widen(&mut memo_of(ROOM), a, X, Includes(3), Includes(7)));
+        .and_then(|a| table.widen(&mut memo_of(ROOM), a, X, 3..=7));
     assert_eq!(widened, Ok(id(5)));
     assert_eq!(table.check(), Ok(Used { nodes: 2, edges: 5 }));
     memory
@@ -32,7 +31,7 @@ const CONDITIONS: [Call; 8] = [
     |table, _| table.from_comparison(X, LessEqual, 9).map(drop),
     |table, _| table.from_comparison(X, GreaterThan, 9).map(drop),
     |table, _| table.from_comparison(X, GreaterEqual, 9).map(drop),
-    |table, _| table.from_range(X, Open, Includes(9)).map(drop),
+    |table, _| table.from_range(X, ..=9).map(drop),
     |table, _| table.from_bool(B).map(drop),
 ];
 
@@ -41,8 +40,8 @@ const WITH_MEMO: [Call; 5] = [
     |table, memo| table.and(memo, id(2), id(4)).map(drop),
     |table, memo| table.or(memo, id(3), id(5)).map(drop),
     |table, memo| table.restrict(memo, id(5), A, true).map(drop),
-    |table, memo| table.narrow(memo, id(5), X, Includes(3), Open).map(drop),
-    |table, memo| table.widen(memo, id(5), X, Open, Includes(5)).map(drop),
+    |table, memo| table.narrow(memo, id(5), X, 3..).map(drop),
+    |table, memo| table.widen(memo, id(5), X, ..=5).map(drop),
 ];
 
 /// The calls that write nothing.
@@ -91,7 +90,7 @@ fn nothing_is_refused_without_a_reason() {
         let mut table = memory.lend();
         let widened = table
             .from_bool(A)
-            .and_then(|a| table.widen(&mut memo, a, X, Includes(3), Includes(7)));
+            .and_then(|a| table.widen(&mut memo, a, X, 3..=7));
         assert_eq!(widened, Ok(id(5)));
         assert_eq!(call(&mut table, &mut memo), Ok(()));
     }
@@ -172,8 +171,8 @@ fn refusal_3() {
         |table, memo, id| table.or(memo, id, NodeId::TRUE).map(drop),
         |table, memo, id| table.or(memo, NodeId::TRUE, id).map(drop),
         |table, memo, id| table.restrict(memo, id, A, true).map(drop),
-        |table, memo, id| table.narrow(memo, id, X, Open, Open).map(drop),
-        |table, memo, id| table.widen(memo, id, X, Open, Open).map(drop),
+        |table, memo, id| table.narrow(memo, id, X, ..).map(drop),
+        |table, memo, id| table.widen(memo, id, X, ..).map(drop),
         |table, _, id| table.is_disjoint(id, NodeId::FALSE).map(drop),
         |table, _, id| table.is_disjoint(NodeId::FALSE, id).map(drop),
         |table, _, id| table.evaluate(&Reading::default(), id).map(drop),
@@ -191,9 +190,9 @@ fn refusal_4() {
     type CallOf = fn(&mut Table, &mut [u32], u32) -> Result<(), Refusal>;
     let ask_a_range: [CallOf; 4] = [
         |table, _, variable| table.from_comparison(variable, Equal, 9).map(drop),
-        |table, _, variable| table.from_range(variable, Open, Open).map(drop),
-        |table, memo, variable| table.narrow(memo, id(2), variable, Open, Open).map(drop),
-        |table, memo, variable| table.widen(memo, id(2), variable, Open, Open).map(drop),
+        |table, _, variable| table.from_range(variable, ..).map(drop),
+        |table, memo, variable| table.narrow(memo, id(2), variable, ..).map(drop),
+        |table, memo, variable| table.widen(memo, id(2), variable, ..).map(drop),
     ];
     let ask_a_boolean: CallOf = |table, _, variable| table.from_bool(variable).map(drop);
     let ask_a_variable: CallOf =

@@ -1,18 +1,22 @@
-// The report: the rules with their ids, and what every two of them are to each other.
+// The report: the pairs of rules that can both hold, the rules that hold always or never, and how many pairs are what. On request the pairs
+// that are apart too, and every rule with its id.
 use super::names::MOST_RULES;
-use super::names::Sheet;
+use super::names::Rule;
+use super::names::rule_at;
 use super::show;
+use super::text::NO_WORD;
 use super::text::Word;
 use super::text::bytes_of;
 use ids::NodeId;
-use kernel::disjointness_calls::is_disjoint;
+use kernel::answers::Answer;
+use kernel::answers::NO_ROOM;
+use kernel::joins_calls::and;
 use std::num::wrapping_add_u64;
-use std::num::wrapping_sub_usize;
-use table::limits::FIRST_BOOLEAN;
+use table::told::Checked;
 use table::told::DONE;
 
-// Each rule with each: pair k is of the rules k / 64 and k % 64.
-const PAIRS: usize = 4096;
+// Each rule with each: pair k is of the rules k / 256 and k % 256.
+const PAIRS: usize = 65536;
 
 // The width of the first column: OVERLAP and REFUSED are the longest words there.
 const KIND: usize = 9;
@@ -34,43 +38,61 @@ enum Relation {
 }
 
 // How many pairs are what.
-struct Tally {
-    apart: u64,
-    overlap: u64,
-    same: u64,
-    inside: u64,
-    refused: u64,
+pub struct Tally {
+    pub apart: u64,
+    pub overlap: u64,
+    pub same: u64,
+    pub inside: u64,
+    pub refused: u64,
 }
 
-// A condition that never holds is apart from every one and even from itself, so that is asked first. An x that cannot hold where y does
-// not is inside y.
-fn related(
-    nodes: &[u32],
-    children: &[u32],
-    cuts: &[i64],
-    index: &[u32],
-    x: NodeId,
-    y: NodeId,
-) -> Relation {
-    let both = is_disjoint(nodes, children, cuts, index, x, y);
+// What x and y are to each other, by the answer of `and` of them. Equal ids are equal conditions, so the id of "both" tells: FALSE, that no
+// reading makes both hold; x, that x never holds without y. "No room" decides too: it is told exactly when no table that goes on from this
+// one has room for the answer, and this one holds FALSE, x and y, so that "both" is none of them.
+fn relation_of(both: Answer, x: NodeId, y: NodeId) -> Relation {
+    let z = both.id;
+    if both.number == NO_ROOM {
+        return Relation::Overlap;
+    }
     if both.number != DONE {
         return Relation::Refused;
     }
-    if both.yes {
+    if z.is_false() {
         return Relation::Apart;
     }
     if x.0 == y.0 {
         return Relation::Same;
     }
-    let first = is_disjoint(nodes, children, cuts, index, x, y.not());
-    if first.yes {
+    if z.0 == x.0 {
         return Relation::Inside;
     }
-    let second = is_disjoint(nodes, children, cuts, index, x.not(), y);
-    if second.yes {
+    if z.0 == y.0 {
         return Relation::Around;
     }
     Relation::Overlap
+}
+
+// Decided by one `and`, and never by `is_disjoint`, whose work may double with each variable. The nodes of the answer stay in the table.
+fn related(
+    nodes: &mut [u32],
+    children: &mut [u32],
+    cuts: &mut [i64],
+    index: &mut [u32],
+    memo: &mut [u32],
+    x: NodeId,
+    y: NodeId,
+) -> Relation {
+    let both = and(nodes, children, cuts, index, memo, x, y);
+    relation_of(both, x, y)
+}
+
+// The heading of the table of pairs.
+fn show_heading(width: usize) {
+    show::column(b"pair", KIND);
+    show::column(b"rule", width);
+    show::text(b"  ");
+    show::column(b"other rule", width);
+    show::text(b"  both corrections apply\n");
 }
 
 // A row of the table of pairs.
@@ -84,12 +106,14 @@ fn show_row(text: &[u8], width: usize, kind: &[u8], first: Word, second: Word, w
     show::text(b"\n");
 }
 
-// Shows a pair and counts it. Of a pair inside, the inner rule comes first.
-fn show_pair(text: &[u8], width: usize, a: Word, b: Word, r: Relation, t: Tally) -> Tally {
+// Shows a pair and counts it; one that is apart is shown only where all are asked for. Of a pair inside, the inner rule comes first.
+fn found(text: &[u8], width: usize, a: Word, b: Word, r: Relation, all: bool, t: Tally) -> Tally {
     let mut t = t;
     match r {
         Relation::Apart => {
-            show_row(text, width, b"apart", a, b, b"never: proved");
+            if all {
+                show_row(text, width, b"apart", a, b, b"never: proved");
+            }
             t.apart = wrapping_add_u64(t.apart, 1);
         }
         Relation::Overlap => {
@@ -116,150 +140,161 @@ fn show_pair(text: &[u8], width: usize, a: Word, b: Word, r: Relation, t: Tally)
     t
 }
 
-// Pair k, if its first rule comes before its second, and if it is apart, or is not, as asked.
+// Pair k, if its first rule comes before its second.
 fn pair(
     text: &[u8],
-    nodes: &[u32],
-    children: &[u32],
-    cuts: &[i64],
-    index: &[u32],
-    s: Sheet,
+    nodes: &mut [u32],
+    children: &mut [u32],
+    cuts: &mut [i64],
+    index: &mut [u32],
+    memo: &mut [u32],
+    rules: &[usize],
+    count: usize,
+    width: usize,
     k: usize,
-    apart: bool,
+    all: bool,
     t: Tally,
 ) -> Tally {
     let i = k / MOST_RULES;
     let j = k % MOST_RULES;
-    if i >= MOST_RULES || j >= MOST_RULES || i >= j || j >= s.count {
+    if i >= j || j >= count {
         return t;
     }
-    let r = related(
-        nodes,
-        children,
-        cuts,
-        index,
-        NodeId(s.ids[i]),
-        NodeId(s.ids[j]),
-    );
-    let is_apart = if let Relation::Apart = r { true } else { false };
-    if is_apart != apart {
-        return t;
-    }
-    let names = s.rules;
-    show_pair(text, s.widest, names.words[i], names.words[j], r, t)
+    let first = rule_at(rules, i);
+    let second = rule_at(rules, j);
+    let x = first.id;
+    let y = second.id;
+    let a = first.name;
+    let b = second.name;
+    let r = related(nodes, children, cuts, index, memo, x, y);
+    found(text, width, a, b, r, all, t)
 }
 
-// Shows and counts the pairs that are apart, or those that are not.
-fn show_pairs(
+// All pairs.
+fn all_pairs(
     text: &[u8],
-    nodes: &[u32],
-    children: &[u32],
-    cuts: &[i64],
-    index: &[u32],
-    s: Sheet,
-    apart: bool,
-    before: Tally,
+    nodes: &mut [u32],
+    children: &mut [u32],
+    cuts: &mut [i64],
+    index: &mut [u32],
+    memo: &mut [u32],
+    rules: &[usize],
+    count: usize,
+    width: usize,
+    all: bool,
 ) -> Tally {
-    let mut t = before;
-    for k in 0..PAIRS {
-        t = pair(text, nodes, children, cuts, index, s, k, apart, t);
-    }
-    t
-}
-
-// A rule with its id. The terminals say that a condition holds always or never.
-fn show_rule(text: &[u8], s: Sheet, i: usize) {
-    if i >= MOST_RULES || i >= s.count {
-        return;
-    }
-    let names = s.rules;
-    let w = names.words[i];
-    let id = s.ids[i];
-    show::column(bytes_of(text, w), s.widest);
-    show::text(b"  ");
-    show::number(id as u64);
-    if id == 0 {
-        show::text(b"  always holds: every reading meets it");
-    }
-    if id == 1 {
-        show::text(b"  never holds: no reading meets it");
-    }
-    show::text(b"\n");
-}
-
-// All rules.
-fn show_rules(text: &[u8], s: Sheet) {
-    show::column(b"rule", s.widest);
-    show::text(b"  id (equal ids: the same condition)\n");
-    for i in 0..MOST_RULES {
-        show_rule(text, s, i);
-    }
-}
-
-// The last line: how many pairs are what.
-fn show_tally(t: Tally) {
-    let inner = wrapping_add_u64(t.same, t.inside);
-    show::text(b"\nPairs that overlap: ");
-    show::number(wrapping_add_u64(t.overlap, inner));
-    show::text(b" (the same condition: ");
-    show::number(t.same);
-    show::text(b", one inside the other: ");
-    show::number(t.inside);
-    show::text(b"). Pairs proved apart: ");
-    show::number(t.apart);
-    show::text(b".\n");
-    if t.refused > 0 {
-        show::text(b"Pairs of which nothing is known, since the kernel refused: ");
-        show::number(t.refused);
-        show::text(b".\n");
-    }
-}
-
-// What was read, and how much of the table it takes.
-fn show_sizes(nodes: &[u32], children: &[u32], cuts: &[i64], index: &[u32], s: Sheet) {
-    let told = table::calls::check(nodes, children, cuts, index);
-    show::text(b"rules: ");
-    show::number(s.count as u64);
-    show::text(b", measures: ");
-    show::number(s.next_measure as u64);
-    show::text(b", switches: ");
-    show::number(wrapping_sub_usize(s.next_switch, FIRST_BOOLEAN) as u64);
-    show::text(b"; table: ");
-    show::number(told.nodes as u64);
-    show::text(b" of ");
-    show::number((nodes.len() / 4) as u64);
-    show::text(b" nodes, ");
-    show::number(told.edges as u64);
-    show::text(b" of ");
-    show::number(children.len() as u64);
-    show::text(b" edges\n\n");
-}
-
-// The whole report: the pairs that can both hold come first.
-pub fn show_report(
-    text: &[u8],
-    nodes: &[u32],
-    children: &[u32],
-    cuts: &[i64],
-    index: &[u32],
-    s: Sheet,
-) {
-    show_sizes(nodes, children, cuts, index, s);
-    show_rules(text, s);
-    show::text(b"\n");
-    show::column(b"pair", KIND);
-    show::column(b"rule", s.widest);
-    show::text(b"  ");
-    show::column(b"other rule", s.widest);
-    show::text(b"  both corrections apply\n");
-    let t = Tally {
+    let mut t = Tally {
         apart: 0,
         overlap: 0,
         same: 0,
         inside: 0,
         refused: 0,
     };
-    let t = show_pairs(text, nodes, children, cuts, index, s, false, t);
-    show::text(b"\n");
-    show_tally(show_pairs(text, nodes, children, cuts, index, s, true, t));
+    for k in 0..PAIRS {
+        t = pair(
+            text,
+            nodes,
+            children,
+            cuts,
+            index,
+            memo,
+            rules,
+            count,
+            width,
+            k,
+            all,
+            t,
+        );
+    }
+    t
+}
+
+// A rule that always or never holds is a finding too: nobody writes one on purpose. Where all is asked for, every rule is shown with its id.
+fn show_rule(text: &[u8], rule: Rule, width: usize, all: bool) {
+    let id = rule.id;
+    let name = rule.name;
+    if id.is_true() {
+        show_row(
+            text,
+            width,
+            b"ALWAYS",
+            name,
+            NO_WORD,
+            b"every reading meets it",
+        );
+    }
+    if id.is_false() {
+        show_row(text, width, b"NEVER", name, NO_WORD, b"no reading meets it");
+    }
+    if all {
+        show::column(b"rule", KIND);
+        show::column(bytes_of(text, name), width);
+        show::labelled(b"  id ", id.0 as u64);
+        show::text(b"\n");
+    }
+}
+
+// The rules that are findings, or all.
+fn show_rules(text: &[u8], rules: &[usize], count: usize, width: usize, all: bool) {
+    for i in 0..count {
+        show_rule(text, rule_at(rules, i), width, all);
+    }
+}
+
+// How many pairs are what.
+fn show_tally(t: Tally) {
+    let inner = wrapping_add_u64(t.same, t.inside);
+    show::labelled(
+        b"\nPairs that overlap: ",
+        wrapping_add_u64(t.overlap, inner),
+    );
+    show::labelled(b" (the same condition: ", t.same);
+    show::labelled(b", one inside the other: ", t.inside);
+    show::labelled(b"). Pairs proved apart: ", t.apart);
+    show::text(b".\n");
+    if t.refused > 0 {
+        show::labelled(b"Pairs that the kernel refused: ", t.refused);
+        show::text(b".\n");
+    }
+}
+
+// What was read, and how much of the table it takes.
+pub fn show_sizes(rules: usize, measures: usize, switches: usize, used: Checked) {
+    show::labelled(b"rules: ", rules as u64);
+    show::labelled(b", measures: ", measures as u64);
+    show::labelled(b", switches: ", switches as u64);
+    show::labelled(b"; table: ", used.nodes as u64);
+    show::labelled(b" of 4096 nodes, ", used.edges as u64);
+    show::text(b" of 16384 edges\n");
+}
+
+// The report, findings first, or where all is asked for every pair and every rule. Returns how many pairs are what.
+pub fn show_report(
+    text: &[u8],
+    nodes: &mut [u32],
+    children: &mut [u32],
+    cuts: &mut [i64],
+    index: &mut [u32],
+    memo: &mut [u32],
+    rules: &[usize],
+    count: usize,
+    width: usize,
+    all: bool,
+) -> Tally {
+    show_heading(width);
+    let t = all_pairs(
+        text,
+        nodes,
+        children,
+        cuts,
+        index,
+        memo,
+        rules,
+        count,
+        width,
+        all,
+    );
+    show_rules(text, rules, count, width, all);
+    show_tally(t);
+    t
 }

@@ -1,5 +1,6 @@
 // A rule's condition, read from the text into an id of the table.
 use super::faults::Fault;
+use super::faults::Limit;
 use super::keys::Key;
 use super::keys::key_of;
 use super::names::Found;
@@ -13,6 +14,7 @@ use super::text::next_word;
 use super::text::reads;
 use ids::NodeId;
 use kernel::answers::Answer;
+use kernel::answers::NO_ROOM;
 use kernel::conditions_calls::from_bool;
 use kernel::conditions_calls::from_comparison;
 use kernel::joins_calls::and;
@@ -32,6 +34,20 @@ pub struct Partial {
     pub fault: Fault,
 }
 
+// A condition with the word behind a term read, and whether that word closes what `and` joined.
+struct Joint {
+    c: Partial,
+    closes: bool,
+}
+
+// What a term is about: a variable, and whether `not` stands before it. Or why there is none, and where.
+struct Subject {
+    word: Word,
+    v: usize,
+    negated: bool,
+    fault: Fault,
+}
+
 // One of the six comparisons, or none.
 enum Sign {
     Is(Comparison),
@@ -49,10 +65,19 @@ fn stopped(at: usize, fault: Fault) -> Partial {
     }
 }
 
+// A refusal of the kernel.
+fn refusal(number: u32) -> Fault {
+    if number == NO_ROOM {
+        return Fault::NoRoom;
+    }
+    Fault::Hit(Limit::Refused(number))
+}
+
 // The kernel's answer for what the terms since the last `or` say together, up to position `at`; a refusal is shown where `from` is.
 fn answered(from: usize, at: usize, a: Answer, any: NodeId) -> Partial {
     if a.number != DONE {
-        return stopped(from, Fault::Refused(a.number));
+        let fault = refusal(a.number);
+        return stopped(from, fault);
     }
     let all = a.id;
     Partial {
@@ -109,7 +134,46 @@ fn measure_term(
     answered(measure.start, number.end, a, NodeId::FALSE)
 }
 
-// A term, as a condition of one term: a measure compared with a key, a switch, or `not` and a switch. To negate an id needs no table.
+// The variable of a term.
+fn subject_of(text: &[u8], names: Names, at: usize) -> Subject {
+    let mut w = next_word(text, at);
+    let negated = reads(text, w, b"not");
+    if negated {
+        w = next_word(text, w.end);
+    }
+    let mut v = 0;
+    let mut fault = Fault::Nothing;
+    if kind_at(text, w.start) != NAME {
+        fault = Fault::NoTerm;
+    } else if let Found::At(found) = find(text, names, w) {
+        v = found;
+        if v < FIRST_BOOLEAN && negated || v >= VARIABLES {
+            fault = Fault::NoSwitch;
+        }
+    } else {
+        fault = Fault::UnknownName;
+    }
+    Subject {
+        word: w,
+        v,
+        negated,
+        fault,
+    }
+}
+
+// The kernel's answer for a switch, or for `not` and a switch. To negate an id needs no table.
+fn switched(s: Subject, a: Answer) -> Partial {
+    let mut a = a;
+    let w = s.word;
+    if s.negated {
+        let id = a.id;
+        let flipped = id.not();
+        a.id = flipped;
+    }
+    answered(w.start, w.end, a, NodeId::FALSE)
+}
+
+// A term, as a condition of one term: a measure compared with a key, a switch, or `not` and a switch.
 fn term(
     text: &[u8],
     nodes: &mut [u32],
@@ -119,33 +183,58 @@ fn term(
     names: Names,
     at: usize,
 ) -> Partial {
-    let mut w = next_word(text, at);
-    let negated = reads(text, w, b"not");
-    if negated {
-        w = next_word(text, w.end);
-    }
-    if kind_at(text, w.start) != NAME {
-        return stopped(w.start, Fault::NoTerm);
-    }
-    let Found::At(v) = find(text, names, w) else {
-        return stopped(w.start, Fault::UnknownName);
+    let s = subject_of(text, names, at);
+    let w = s.word;
+    let fault = s.fault;
+    let Fault::Nothing = fault else {
+        return stopped(w.start, fault);
     };
-    if v < FIRST_BOOLEAN && !negated {
-        return measure_term(text, nodes, children, cuts, index, w, v as u32);
+    let v = (s.v % VARIABLES) as u32;
+    if s.v < FIRST_BOOLEAN {
+        return measure_term(text, nodes, children, cuts, index, w, v);
     }
-    if v >= VARIABLES || v < FIRST_BOOLEAN {
-        return stopped(w.start, Fault::NoSwitch);
-    }
-    let mut a = from_bool(nodes, children, cuts, index, v as u32);
-    let id = a.id;
-    if negated {
-        let flipped = id.not();
-        a.id = flipped;
-    }
-    answered(w.start, w.end, a, NodeId::FALSE)
+    let a = from_bool(nodes, children, cuts, index, v);
+    switched(s, a)
 }
 
-// The word behind a term: `and`, or else `or` or the end of the line, which close what `and` joined, since `and` binds closer.
+// What the word behind a term does: it joins by `and`, or is `or` or the end of the line, which close what `and` joined, since `and` binds
+// closer. In the latter case `closes`, and `more` of the condition says whether it is `or`.
+fn behind(text: &[u8], c: Partial) -> Joint {
+    let mut c = c;
+    let w = next_word(text, c.at);
+    if !c.more {
+        return Joint { c, closes: false };
+    }
+    c.at = w.end;
+    if reads(text, w, b"and") {
+        return Joint { c, closes: false };
+    }
+    let more = reads(text, w, b"or");
+    if !more && !reads(text, w, b"") {
+        let c = stopped(w.start, Fault::NoJoin);
+        return Joint { c, closes: false };
+    }
+    c.more = more;
+    Joint { c, closes: true }
+}
+
+// The condition as far as it was read, where the kernel's answer is all that stands before the next `or`.
+fn closed(at: usize, more: bool, a: Answer) -> Partial {
+    if a.number != DONE {
+        let fault = refusal(a.number);
+        return stopped(at, fault);
+    }
+    let any = a.id;
+    Partial {
+        at,
+        all: NodeId::TRUE,
+        any,
+        more,
+        fault: Fault::Nothing,
+    }
+}
+
+// The word behind a term, and what it closes.
 fn join(
     text: &[u8],
     nodes: &mut [u32],
@@ -155,33 +244,15 @@ fn join(
     memo: &mut [u32],
     c: Partial,
 ) -> Partial {
-    let mut c = c;
-    let w = next_word(text, c.at);
-    if !c.more {
+    let j = behind(text, c);
+    let c = j.c;
+    if !j.closes {
         return c;
-    }
-    if reads(text, w, b"and") {
-        c.at = w.end;
-        return c;
-    }
-    let more = reads(text, w, b"or");
-    if !more && !reads(text, w, b"") {
-        return stopped(w.start, Fault::NoJoin);
     }
     let x = c.any;
     let y = c.all;
     let a = or(nodes, children, cuts, index, memo, x, y);
-    if a.number != DONE {
-        return stopped(w.start, Fault::Refused(a.number));
-    }
-    let any = a.id;
-    Partial {
-        at: w.end,
-        all: NodeId::TRUE,
-        any,
-        more,
-        fault: Fault::Nothing,
-    }
+    closed(c.at, c.more, a)
 }
 
 // The condition with one term more, and the word behind it.

@@ -1,4 +1,5 @@
 // The text as words. A word is two positions in the text; nothing is copied.
+use std::num::wrapping_add_usize;
 
 // Kinds of bytes, a bit each, so that a run may be of several kinds.
 const BLANK: u8 = 1;
@@ -18,14 +19,17 @@ const OTHER: u8 = 32;
 // `.` and `,`, which no name and no key has.
 const POINT: u8 = 64;
 
-// NAME, SIGN, OTHER and POINT.
-const IN_WORDS: u8 = 102;
+// Bytes outside ASCII. They may stand in comments.
+const FAR: u8 = 128;
 
-// NAME and POINT.
-const IN_NUMBERS: u8 = 66;
+// NAME, SIGN, OTHER, POINT and FAR.
+const IN_WORDS: u8 = 230;
 
-// All but NEWLINE.
-const IN_LINES: u8 = 111;
+// NAME, POINT and FAR: what a writer may have meant as one name or number.
+const IN_NUMBERS: u8 = 194;
+
+// All but FAR.
+const NEAR: u8 = 127;
 
 // The bytes from the first to the one before the end; none where both are the same, as at the end of each line.
 pub struct Word {
@@ -35,17 +39,27 @@ pub struct Word {
 
 pub const NO_WORD: Word = Word { start: 0, end: 0 };
 
-// The kind of a byte.
+// The kind of a byte. A carriage return ends a line, with a line feed behind it or without, and so do a vertical tab (11) and a form feed
+// (12): where an editor shows a new line, no comment goes on.
 fn kind_of(b: u8) -> u8 {
     match b {
-        b' ' | b'\t' | b'\r' => BLANK,
+        b' ' | b'\t' => BLANK,
         b'a'..=b'z' | b'A'..=b'Z' | b'0'..=b'9' | b'_' | b'-' => NAME,
         b'=' | b'!' | b'<' | b'>' => SIGN,
         b'.' | b',' => POINT,
         b'#' => HASH,
-        b'\n' => NEWLINE,
+        b'\n' | b'\r' | 11 | 12 => NEWLINE,
+        128..=255 => FAR,
         _ => OTHER,
     }
+}
+
+// The byte at a position; 0 behind the end.
+pub fn byte_at(text: &[u8], at: usize) -> u8 {
+    if at < text.len() {
+        return text[at];
+    }
+    0
 }
 
 // The kind of the byte at a position. The end of the text counts as a newline.
@@ -66,24 +80,57 @@ pub fn run_end(text: &[u8], at: usize, kinds: u8) -> usize {
 }
 
 // The next word of the line: a run of letters, digits, `_` and `-`, or of = ! < >, or of other bytes. At the end of the line and at a
-// comment the run is of no kind, and the word empty. 1.5 is one word, so that it is refused as the number that was meant.
+// comment the run is of no kind, and the word empty. 1.5 is one word, so that it is refused as the number that was meant; so is a name
+// with letters outside ASCII.
 pub fn next_word(text: &[u8], at: usize) -> Word {
     let start = run_end(text, at, BLANK);
     let mut kinds = kind_at(text, start) & IN_WORDS;
-    if kinds == NAME {
+    if kinds == NAME || kinds == FAR {
         kinds = IN_NUMBERS;
     }
     let end = run_end(text, start, kinds);
     Word { start, end }
 }
 
-// Where the next line starts, or the end of the text.
-pub fn next_line(text: &[u8], at: usize) -> usize {
-    let end = run_end(text, at, IN_LINES);
-    if end < text.len() {
-        return end + 1;
+// Where the first byte outside ASCII of a word stands; the word's end or beyond, if it has none.
+pub fn first_far(text: &[u8], w: Word) -> usize {
+    run_end(text, w.start, NEAR)
+}
+
+// Whether a line separator of Unicode starts here: U+0085, U+2028 or U+2029 in UTF-8. Some editors show a new line there.
+fn separates(text: &[u8], at: usize) -> bool {
+    let first = byte_at(text, at);
+    let second = byte_at(text, wrapping_add_usize(at, 1));
+    let third = byte_at(text, wrapping_add_usize(at, 2));
+    first == 194 && second == 133 || first == 226 && second == 128 && (third == 168 || third == 169)
+}
+
+// Whether a line that starts at `from` ends at `i`. One that starts with a separator does not end there: it is refused for it.
+fn ends_line(text: &[u8], from: usize, i: usize) -> bool {
+    kind_at(text, i) == NEWLINE || from < i && separates(text, i)
+}
+
+// Where a line ends, comment and all.
+fn line_end(text: &[u8], from: usize) -> usize {
+    let mut i = from;
+    while i < text.len() && !ends_line(text, from, i) {
+        i += 1;
     }
-    end
+    i
+}
+
+// Where the next line starts, or the end of the text. A line feed behind a carriage return belongs to it. A separator of Unicode is the
+// start of the next line, where it cannot be read: so it is named, and nothing behind it is lost in a comment.
+pub fn next_line(text: &[u8], at: usize) -> usize {
+    let end = line_end(text, at);
+    if end >= text.len() || kind_at(text, end) != NEWLINE {
+        return end;
+    }
+    let next = end + 1;
+    if text[end] == b'\r' && next < text.len() && text[next] == b'\n' {
+        return next + 1;
+    }
+    next
 }
 
 // The bytes of a word.
