@@ -46,7 +46,8 @@
  * Anything else is answered by a number: any contents, any length within your memory, any id, variable, key, place or kind of bound.
  *
  * A table that lies half written in memory that outlives a power cut is tested by the next call like any other, and refused with 2 unless
- * every word of it is as a sound table's must be.
+ * every word of it is as a sound table's must be. What no test of a table alone can see is a change from one sound table to another, as
+ * from cut 10 to cut 12 in a table with room for one node: if you fear that, keep a checksum or a signature beside the table.
  *
  * MEMORY, THREADS, STACK
  *

@@ -13,8 +13,9 @@ use core::ops::RangeBounds;
 /// whole table, so it may be dropped and lent again, also after it lay in flash; docs/LAYOUT.md tells every word. A table that nobody
 /// writes is a [`View`].
 ///
-/// Every call tests the whole table first, and then its other arguments, in the order of the refusals' numbers. A refused call leaves the
-/// four slices as they were. Calls that take a `memo` use it as scratch: three words a node of the room, whatever they hold, all zero
+/// Every call tests the lengths first, then the whole table (but for `fresh`, which overwrites it), then its other arguments, in the order
+/// of the refusals' numbers. A table that is sound, but not the one that was stored, cannot be told from it: where memory may change,
+/// keep a checksum or a signature beside the table. A refused call leaves the four slices as they were. Calls that take a `memo` use it as scratch: three words a node of the room, whatever they hold, all zero
 /// after a call that was done or found no room.
 ///
 /// Calls that walk down a table need a deep stack, `restrict` up to 92,504 bytes in our deepest test: include/spanwhistle.h has the
