@@ -3,7 +3,7 @@ use mathlib.Core.Bool.{Bool, true, false, not, _&&_}
 use mathlib.Core.List.{List, [], _∷_}
 use Prim.Native.Nat.{ℕ}
 use lib.Dec.{eqb}
-use lib.IntN.{ℤ, pos}
+use lib.IntN.{pos}
 use lib.Signed.{leZ-yes}
 use Rattle.ids.specs.Id.{FALSE}
 use Rattle.ranges.specs.declared.bounds.Bound.the-variants.{Excludes}
@@ -35,10 +35,6 @@ hold t [] = true
 hold t (gives f id ∷ cs) = let out = f t in eqb (out .1) id && hold (out .0) cs
 hold t (asks f b ∷ cs) = same (f t) b && hold t cs
 
--- "open (1,2) gives 15, and is disjoint with x=1": with the condition made after it.
-abbrev pub disjointWith : ℕ → ℤ → Table → Bool
-disjointWith id key t = let out = comparison t x Equal key in is-disjoint (out .0) id (out .1)
-
 -- a true, and x at a place
 abbrev pub xAt8 : Reading
 xAt8 = atPlace lowestReading x (pos 8) (leZ-yes tt, leZ-yes tt)
@@ -62,10 +58,12 @@ starred =
     ∷ gives (λ t. from-bool t a) 8
     ∷ gives (λ t. and t 2 8) 10
     ∷ gives (λ t. or t 2 8) 12
-    -- C11* open (1,2) gives 15, and is disjoint with x=1 and with x=2.
+    -- C11* open (1,2) gives 15, and is disjoint with x=1, which is 17, and with x=2, which is 19.
     ∷ gives (λ t. from-range t x (Excludes (pos 1)) (Excludes (pos 2))) 15
-    ∷ asks (disjointWith 15 (pos 1)) true
-    ∷ asks (disjointWith 15 (pos 2)) true
+    ∷ gives (λ t. comparison t x Equal (pos 1)) 17
+    ∷ asks (λ t. is-disjoint t 15 17) true
+    ∷ gives (λ t. comparison t x Equal (pos 2)) 19
+    ∷ asks (λ t. is-disjoint t 15 19) true
     -- C12* 10 at place 8 with a true: yes; at place 10: no.
     ∷ asks (λ t. says t xAt8 10) true
     ∷ asks (λ t. says t xAt10 10) false
