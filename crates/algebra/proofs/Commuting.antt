@@ -1,7 +1,7 @@
 -- Conjunction of x and y makes what conjunction of y and x makes: the same nodes, in the same order, and the same id. The source
 -- hands the pair on turned round where only the second operand tests the variable; this says that nothing hangs on it. Assumes nothing.
 use mathlib.Core.Path.{_≡_, refl, sym, _∙_, ap, ap₂}
-use mathlib.Core.Bool.{Bool, true, false, not, _&&_, _||_}
+use mathlib.Core.Bool.{Bool, true, false, _||_}
 use mathlib.Core.Option.{Option, none, some}
 use Prim.Native.Nat.{ℕ, zero, suc, _+_, _≤_, _<_, min}
 use native.Mathlib.Omega.{arith}
@@ -10,14 +10,14 @@ use lib.Dec.{eqb}
 use borrow.Author.Tests.{lt-ltb, le-ltb, le-leb, lt-leb, eqb-true, eq-eqb, ne-eqb}
 use Rattle.ids.specs.Id.{ref, flip}
 use Rattle.diagram.specs.Pieces.{Pieces, last, cut, count, Each, Rising}
-use Rattle.diagram.specs.Table.{variables, isRange, topOf, Table, at, Assignment}
+use Rattle.diagram.specs.Table.{variables, topOf, Table, at, Assignment}
 use Rattle.diagram.specs.Cofactor.{map, edgesOf}
 use Rattle.diagram.specs.Sound.{Known, Child, Sound, Continues, same}
 use Rattle.diagram.proofs.Facts.{facts-at}
 use Rattle.diagram.proofs.Continuing.{continues-child, continues-trans}
 use Rattle.diagram.proofs.Cofactors.{edges-are-kids, edges-rising}
 use Rattle.algebra.specs.Overlay.{below, beside, above, overlay}
-use Rattle.algebra.specs.Conjunction.{walk, walkBack, walkIn, create-over, pick, opening, conj-node, conj-step, conj, and}
+use Rattle.algebra.specs.Conjunction.{walk, walkBack, walkIn, create-over, pick, opening, lowFirst, conj-node, conj-step, conj, and}
 use Rattle.algebra.proofs.Overlays.{each-overlay}
 use Rattle.algebra.proofs.Made.{Made}
 use Rattle.algebra.proofs.Conjoining.{neither-is-terminal, conj-says-both}
@@ -195,10 +195,10 @@ commute (suc n) t z u x y kx ky h = ap (conj-step f t y x) (opening-comm y x) �
         let fx = facts-at t z (ref x) (omega arith) (kx .0) in
         let turned : min b a ≡ min a b = omega arith in
         let later : variables < suc v + n = omega (arith, h, kx .1, ky .1) in
-        ap₂ (λ (w : ℕ) (e : Bool). create-over w (walkIn (not (isRange w) && not e) f t (overlay (edgesOf t w y) (edgesOf t w x)))) turned (eqb-comm b a)
+        ap₂ (λ (w : ℕ) (e : Bool). create-over w (walkIn (lowFirst w e) f t (overlay (edgesOf t w y) (edgesOf t w x)))) turned (eqb-comm b a)
         ∙ ap (create-over v) (commute-at t z f v x y (omega (arith, fx .known)) (kx .0, omega arith) (ky .0, omega arith)
         (λ s zs c p k. keeps s zs (conj-says-both n s zs (suc v) (p .0) (p .1) (continues-child c (suc v) (p .0) (k .0)) (continues-child c (suc v) (p .1) (k .1)) later))
-        (λ s zs c p k. rec s zs v p (continues-child c (suc v) (p .0) (k .0)) (continues-child c (suc v) (p .1) (k .1)) later) (not (isRange v) && not (eqb a b)))
+        (λ s zs c p k. rec s zs v p (continues-child c (suc v) (p .0) (k .0)) (continues-child c (suc v) (p .1) (k .1)) later) (lowFirst v (eqb a b)))
       where
         keeps : (s : Table) → Sound s → {w : ℕ} {m : Assignment → Bool} {out : Table × ℕ} → Made s w m out → Sound (out .0) × Continues s (out .0)
         keeps s zs x = (x .sound, x .continues)

@@ -9,7 +9,7 @@ use lib.Dec.{eqb}
 use borrow.Author.Tests.{eqb-true, eqb-false}
 use Rattle.ids.specs.Id.{ref, flip}
 use Rattle.ids.proofs.Signs.{ref-flip}
-use Rattle.diagram.specs.Table.{variables, isRange, topOf, Table, at, Assignment, value}
+use Rattle.diagram.specs.Table.{variables, topOf, Table, at, Assignment, value}
 use Rattle.diagram.specs.Cofactor.{edgesOf}
 use Rattle.diagram.specs.Sound.{Known, Child, Sound, Continues}
 use Rattle.diagram.proofs.Lookup.{at-end, value-true, value-false, value-flip}
@@ -105,7 +105,7 @@ conj-says-both (suc n) t z u x y kx ky h = go (opening x y) refl (λ s zs v p k 
         (both-at t z f (min a b) x y (omega (arith, fx .known)) (kx .0, omega arith) (ky .0, omega arith)
         (λ s zs g p k. made-same-meaning (rec s zs (min a b) p (continues-child g (suc (min a b)) (p .0) (k .0)) (continues-child g (suc (min a b)) (p .1) (k .1)) (omega (arith, h, kx .1, ky .1)))
         (λ α. ap₂ _&&_ (continues-value g α (p .0) (k .0 .0)) (continues-value g α (p .1) (k .1 .0))))
-        (not (isRange (min a b)) && not (eqb a b)))
+        _)
 
 module _ (t : Table) (z : Sound t) (x y : ℕ) (kx : Known t x) (ky : Known t y) where
   pub and-made : Made t 0 (λ α. value t α x && value t α y) (and t x y)

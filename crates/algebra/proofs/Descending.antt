@@ -1,13 +1,13 @@
 -- Restriction, narrowing and widening have one law: the id that stands where the earlier variables have been read has its edges
 -- changed, and the answer says what those say. Assumes nothing.
 use mathlib.Core.Path.{_≡_, refl, sym, _∙_, ap}
-use mathlib.Core.Bool.{Bool, true, false, not, cond}
+use mathlib.Core.Bool.{Bool, true, false, cond}
 use Prim.Native.Nat.{ℕ, zero, suc, _+_, _≤_, _<_}
 use native.Mathlib.Omega.{arith}
 use borrow.Author.Tests.{ltb-true, ltb-false}
 use Rattle.ids.specs.Id.{ref}
 use Rattle.diagram.specs.Pieces.{Pieces, select, Each, Rising}
-use Rattle.diagram.specs.Table.{variables, isRange, topOf, Table, at, Assignment, value}
+use Rattle.diagram.specs.Table.{variables, topOf, Table, at, Assignment, value}
 use Rattle.diagram.specs.Cofactor.{edgesOf, upd}
 use Rattle.diagram.specs.Sound.{Known, Child, Sound, Continues}
 use Rattle.diagram.proofs.Piecewise.{each-select}
@@ -150,5 +150,5 @@ module _ (v : ℕ) (hv : v < variables) (g : Pieces ℕ → Pieces ℕ) (ch : Ch
           let ku : Child t u id = (k .0, omega arith) in
           weaken t w u _ _ (k .1) (created-over t z f u (omega arith) (Child t (suc u)) (means n t)
           (λ s zs c i q. made-same-meaning (rec s zs i lt (continues-child c (suc u) i q) (omega (arith, k .1))) (means-continues n z c (suc u) i q (omega (arith, k .1))))
-          (edgesOf t u id) (edges-rising t z u id (omega arith) ku) (edges-are-kids t z u id (omega arith) ku .kids) (not (isRange u)))
+          (edgesOf t u id) (edges-rising t z u id (omega arith) ku) (edges-are-kids t z u id (omega arith) ku .kids) _)
       go false x rec = weaken t w v _ _ l (here-made t z id (k .0, before-no t v id x))

@@ -50,16 +50,16 @@ opening x y = pick (eqb x TRUE) (eqb y TRUE) (eqb x y) (eqb x FALSE || (eqb y FA
 abbrev pub pairsOf : Table → ℕ → ℕ → ℕ → Pieces (ℕ × ℕ)
 pairsOf t v x y = overlay (edgesOf t v x) (edgesOf t v y)
 
--- Whether the last pair comes first, where the two ids test the variables u and w: "booleans high then low where both sides test the variable,
--- low then high where only one does".
-abbrev pub lowFirst : ℕ → ℕ → Bool
-lowFirst u w = not (isRange (min u w)) && not (eqb u w)
+-- Whether the last pair comes first, at the variable v, which both sides test or only one: "booleans high then low where both sides test
+-- the variable, low then high where only one does".
+abbrev pub lowFirst : ℕ → Bool → Bool
+lowFirst v both = not (isRange v) && not both
 
 -- Both at the earlier of two variables.
 unfoldable pub conj-node : (Table → ℕ × ℕ → Table × ℕ) → Table → ℕ → ℕ → ℕ → ℕ → Table × ℕ
 conj-node f t x y u w =
     let v = min u w in
-    create-over v (walkIn (lowFirst u w) f t (pairsOf t v x y))
+    create-over v (walkIn (lowFirst v (eqb u w)) f t (pairsOf t v x y))
 
 unfoldable pub conj-step : (Table → ℕ × ℕ → Table × ℕ) → Table → ℕ → ℕ → Option ℕ → Table × ℕ
 conj-step f t x y (some z) = (t, z)
