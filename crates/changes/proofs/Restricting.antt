@@ -30,7 +30,7 @@ use Rattle.changes.proofs.Down.{here-is}
 use Rattle.table.specs.Layout.{Store}
 
 -- Of one edge or two, the one at position 0 is the high one, and the one at position 1 the low one.
-select-half : {e : Pieces ℕ} {high low : ℕ} → joined.Sides e high low → (value : Bool) → cond value high low ≡ select e (cond value 0 1)
+select-half : {e : Pieces ℕ} {high low : ℕ} → joined.HighLow e high low → (value : Bool) → cond value high low ≡ select e (cond value 0 1)
 select-half joined.one true = refl
 select-half joined.one false = refl
 select-half joined.two true = refl

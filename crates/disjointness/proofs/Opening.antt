@@ -18,7 +18,7 @@ use Rattle.table.specs.Held.{held}
 use Rattle.views.specs.Seeing.{Asked, Readable, seen, Sees, Views}
 use Rattle.views.specs.declared.View.{View}
 use Rattle.views.proofs.Sights.{seen-range, seen-bool, views-rising, views-kids, views-inside, bool-count-le-two, known-held, known-used, first-variable-is, sees-views, call-left}
-use Rattle.disjointness.specs.Asking.{apart, Sides}
+use Rattle.disjointness.specs.Asking.{apart, AskedSides}
 use Rattle.table.specs.Layout.{varAt, Store}
 
 -- what they ask
@@ -100,7 +100,7 @@ module _ {st : Store} {u n x y : ℕ} (r : Readable st u) (ax : Asked (held st u
       below c k = record { known = known-used st u c (k .0); ahead = omega (arith, k .1, ev, ax .ahead, ay .ahead, some-ahead) }
 
       -- the two views, at the variable
-      sides : Sides st u v (n - 1) a b
+      sides : AskedSides st u v (n - 1) a b
       sides = record {
         left = views-inside st u v x a r va;
         right = views-inside st u v y b r vb;
@@ -111,7 +111,7 @@ module _ {st : Store} {u n x y : ℕ} (r : Readable st u) (ax : Asked (held st u
       }
 
       -- and at one that stands for its kind
-      at-kind : (k : ℕ) → topOf v ≡ topOf k → ((w : View) → seen (st .children) (st .cuts) v w 0 ≡ seen (st .children) (st .cuts) k w 0) → Sides st u k (n - 1) a b
+      at-kind : (k : ℕ) → topOf v ≡ topOf k → ((w : View) → seen (st .children) (st .cuts) v w 0 ≡ seen (st .children) (st .cuts) k w 0) → AskedSides st u k (n - 1) a b
       at-kind k e same = record {
         left = sides .left;
         right = sides .right;
@@ -124,13 +124,13 @@ module _ {st : Store} {u n x y : ℕ} (r : Readable st u) (ax : Asked (held st u
       whole : disjoint n t x y ≡ apart (n - 1) t (seen (st .children) (st .cuts) v a 0) (seen (st .children) (st .cuts) v b 0)
       whole = disjoint-apart t x y n some-ahead (sym d ∙ o) (sym e ∙ g) v ev ∙ ap₂ (apart (n - 1) t) (sym (va .edges)) (sym (vb .edges))
 
-      pub range-sides : v < firstBoolean → Sides st u 0 (n - 1) a b
+      pub range-sides : v < firstBoolean → AskedSides st u 0 (n - 1) a b
       range-sides h = at-kind 0 (rw (lt-ltb v 32 h)) (λ w. seen-range (st .children) (st .cuts) v w 0 h)
 
       pub range-answer : v < firstBoolean → {z : Bool} → z ≡ apart (n - 1) t (seen (st .children) (st .cuts) 0 a 0) (seen (st .children) (st .cuts) 0 b 0) → z ≡ disjoint n t x y
       range-answer h f = f ∙ sym (whole ∙ ap₂ (apart (n - 1) t) (seen-range (st .children) (st .cuts) v a 0 h) (seen-range (st .children) (st .cuts) v b 0 h))
 
-      pub bool-sides : firstBoolean ≤ v → Sides st u firstBoolean (n - 1) a b × (a .count ≤ 2) × (b .count ≤ 2)
+      pub bool-sides : firstBoolean ≤ v → AskedSides st u firstBoolean (n - 1) a b × (a .count ≤ 2) × (b .count ≤ 2)
       bool-sides h = (at-kind firstBoolean (rw (le-ltb v 32 h)) (λ w. seen-bool (st .children) (st .cuts) v w 0 h), bool-count-le-two st u v x a r hv left-child va h, bool-count-le-two st u v y b r hv right-child vb h)
 
       pub bool-answer : firstBoolean ≤ v → {z : Bool} → z ≡ apart (n - 1) t (seen (st .children) (st .cuts) firstBoolean a 0) (seen (st .children) (st .cuts) firstBoolean b 0) → z ≡ disjoint n t x y

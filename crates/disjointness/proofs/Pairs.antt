@@ -14,11 +14,11 @@ use Rattle.table.proofs.Laws.{lt-or-le}
 use Rattle.views.specs.Seeing.{childSeen, seen}
 use Rattle.views.specs.declared.View.{View}
 use Rattle.views.proofs.Sights.{seen-one, seen-two, first-seen}
-use Rattle.disjointness.specs.Asking.{apart, Sides}
+use Rattle.disjointness.specs.Asking.{apart, AskedSides}
 use Rattle.disjointness.proofs.Overlaps.{apart-not, apart-left-last, apart-right-last, apart-both, apart-one}
 use Rattle.table.specs.Layout.{Store}
 
-module _ {st : Store} {u n : ℕ} {a b : View} (s : Sides st u firstBoolean n a b) where
+module _ {st : Store} {u n : ℕ} {a b : View} (s : AskedSides st u firstBoolean n a b) where
   abbrev t : Table
   t = held st u
 

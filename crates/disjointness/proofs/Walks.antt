@@ -15,7 +15,7 @@ use Rattle.table.proofs.Laws.{lt-or-le}
 use Rattle.views.specs.Seeing.{Asked, Readable, beyond, childSeen, cutSeen, seen, Inside}
 use Rattle.views.specs.declared.View.{View}
 use Rattle.views.proofs.Sights.{seen-last, seen-cut, seen-each, rising-cut, inside-wider, first-seen}
-use Rattle.disjointness.specs.Asking.{apart, Sides}
+use Rattle.disjointness.specs.Asking.{apart, AskedSides}
 use Rattle.disjointness.proofs.Overlaps.{apart-not, apart-left, apart-left-last, apart-right, apart-right-last, apart-both, apart-one}
 use Rattle.table.specs.Layout.{Store}
 
@@ -49,7 +49,7 @@ pub record Turned (n : ℕ) (t : Table) (children : List ℕ) (cuts : List ℤ) 
 pub turned-at : {n : ℕ} {t : Table} {children : List ℕ} {cuts : List ℤ} {a b : View} {i j z : ℕ} → z ≡ j → Turned n t children cuts a b i j → Turned n t children cuts a b i z
 turned-at {n} {t} {children} {cuts} {a} {b} {i} e h = subst (λ (k : ℕ). Turned n t children cuts a b i k) (sym e) h
 
-module _ {st : Store} {u n : ℕ} {a b : View} (s : Sides st u 0 n a b) where
+module _ {st : Store} {u n : ℕ} {a b : View} (s : AskedSides st u 0 n a b) where
   abbrev t : Table
   t = held st u
 

@@ -18,7 +18,7 @@ unfoldable pub apart : ℕ → Table → Pieces ℕ → Pieces ℕ → Bool
 apart n t e f = every (λ p. disjoint n t (p .0) (p .1)) (overlay e f)
 
 -- Two views at one variable: their cuts rise, and each child may be asked about. v is that variable, or another of its kind.
-pub record Sides (st : Store) (u v n : ℕ) (a b : View) : Type 0 where
+pub record AskedSides (st : Store) (u v n : ℕ) (a b : View) : Type 0 where
   pub left : Inside (length (st .children)) a
   pub right : Inside (length (st .children)) b
   pub left-rises : Rising 0 (topOf v) (seen (st .children) (st .cuts) v a 0)

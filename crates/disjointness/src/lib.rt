@@ -9,7 +9,7 @@ ghost use Rattle.diagram.specs.Table.{firstBoolean};
 ghost use Rattle.algebra.specs.Disjointness.{disjoint};
 ghost use Rattle.table.specs.Held.{held};
 ghost use Rattle.views.specs.Seeing.{Asked, Readable, seen};
-ghost use Rattle.disjointness.specs.Asking.{apart, Sides};
+ghost use Rattle.disjointness.specs.Asking.{apart, AskedSides};
 ghost use Rattle.table.specs.Layout.{store};
 use ids::NodeId;
 use table::limits::FIRST_BOOLEAN;
@@ -75,7 +75,7 @@ fn ranges_disjoint(
     b: View,
     ahead: usize,
 ) -> bool
-    requires { ⌜ (Readable (store (now nodes) (now children) (now cuts)) used) × (Sides (store (now nodes) (now children) (now cuts)) used 0 ahead a b) ⌝ }
+    requires { ⌜ (Readable (store (now nodes) (now children) (now cuts)) used) × (AskedSides (store (now nodes) (now children) (now cuts)) used 0 ahead a b) ⌝ }
     ensures { λ r. ⌜ r ≡ apart ahead (held (store (now (nodes .entry)) (now (children .entry)) (now (cuts .entry))) used) (seen (now (children .entry)) (now (cuts .entry)) 0 a 0) (seen (now (children .entry)) (now (cuts .entry)) 0 b 0) ⌝ }
 {
     let mut answer = true;
@@ -115,7 +115,7 @@ fn booleans_disjoint(
     b: View,
     ahead: usize,
 ) -> bool
-    requires { ⌜ (Readable (store (now nodes) (now children) (now cuts)) used) × (Sides (store (now nodes) (now children) (now cuts)) used firstBoolean ahead a b) × (a .count ≤ 2) × (b .count ≤ 2) ⌝ }
+    requires { ⌜ (Readable (store (now nodes) (now children) (now cuts)) used) × (AskedSides (store (now nodes) (now children) (now cuts)) used firstBoolean ahead a b) × (a .count ≤ 2) × (b .count ≤ 2) ⌝ }
     ensures { λ r. ⌜ r ≡ apart ahead (held (store (now (nodes .entry)) (now (children .entry)) (now (cuts .entry))) used) (seen (now (children .entry)) (now (cuts .entry)) firstBoolean a 0) (seen (now (children .entry)) (now (cuts .entry)) firstBoolean b 0) ⌝ }
 {
     // High before low, as in the source. Nothing is made here, so no id depends on it.

@@ -53,16 +53,16 @@ module _ (n : ℕ) (t : Table) (z : Sound t) (u x y : ℕ) (kx : Child t u x) (k
       (omega (arith, l, kx .0), omega (arith, l, ky .0), m .child .0, λ α. m .means α ∙ sym (ap₂ _&&_ (continues-value (m .continues) α x (kx .0)) (continues-value (m .continues) α y (ky .0))))
 
 -- a side at a boolean variable has one or two pieces: a value at both positions, or a high one and a low one
-pub data Sides : Pieces ℕ → ℕ → ℕ → Type 0 where
-  one : {a : ℕ} → Sides (last a) a a
-  two : {h l : ℕ} → Sides (cut h 1 (last l)) h l
+pub data HighLow : Pieces ℕ → ℕ → ℕ → Type 0 where
+  one : {a : ℕ} → HighLow (last a) a a
+  two : {h l : ℕ} → HighLow (cut h 1 (last l)) h l
 
 -- the last value
 abbrev pub final : Pieces ℕ → ℕ
 final (last a) = a
 final (cut a k e) = final e
 
-pub sides : (v : ℕ) → firstBoolean ≤ v → (e : Pieces ℕ) → Rising 0 (topOf v) e → Sides e (first e) (final e)
+pub sides : (v : ℕ) → firstBoolean ≤ v → (e : Pieces ℕ) → Rising 0 (topOf v) e → HighLow e (first e) (final e)
 sides v h (last a) r = one
 sides v h (cut a k (last b)) r =
     let x : k ≤ 1 = rw (le-ltb v firstBoolean h) at (r .1) in
@@ -73,7 +73,7 @@ sides v h (cut a k (cut b l e)) r =
     absurd (omega (arith, r .0, r .2 .0))
 
 -- two such sides, one over the other, where either has two
-pub overlay-sides : {e g : Pieces ℕ} {h l i j : ℕ} → Sides e h l → Sides g i j → 2 < count e + count g → overlay e g ≡ cut (h, i) 1 (last (l, j))
+pub overlay-sides : {e g : Pieces ℕ} {h l i j : ℕ} → HighLow e h l → HighLow g i j → 2 < count e + count g → overlay e g ≡ cut (h, i) 1 (last (l, j))
 overlay-sides one one n = absurd (omega arith)
 overlay-sides (one {a = a}) (two {h = i} {l = j}) n = overlay-last-cut a i 1 (last j) ∙ ap (cut (a, i) 1) (overlay-last-last a j)
 overlay-sides (two {h = h} {l = l}) (one {a = a}) n = overlay-cut-last h a 1 (last l) ∙ ap (cut (h, a) 1) (overlay-last-last l a)

@@ -28,12 +28,12 @@ module _ (children : List ℕ) (cuts : List ℤ) (v : ℕ) (g : firstBoolean ≤
   two-edges : 1 < w .count → w .count ≡ 2
   two-edges l = ⊎-elim (λ e. sym e) (λ k. absurd (omega (arith, rising-next children cuts v w _ _ 1 (rising-cut children cuts v w _ rise 0 l .2) k .0, cutSeen-bool cuts v w 0 g, cutSeen-bool cuts v w 1 g))) (eq-or-lt-of-le l)
 
-  pub sides-of-seen : joined.Sides (seen children cuts v w 0) (childSeen children w 0) (childSeen children w (w .count - 1))
+  pub sides-of-seen : joined.HighLow (seen children cuts v w 0) (childSeen children w 0) (childSeen children w (w .count - 1))
   sides-of-seen = ⊎-elim
-      (λ e. subst (λ (x : Pieces ℕ). joined.Sides x (childSeen children w 0) (childSeen children w (w .count - 1))) (sym (seen-one children cuts v w (sym e)))
-      (let a : 0 ≡ w .count - 1 = omega (arith, e) in subst (λ (j : ℕ). joined.Sides (last (childSeen children w 0)) (childSeen children w 0) (childSeen children w j)) a joined.one))
-      (λ l. subst (λ (x : Pieces ℕ). joined.Sides x (childSeen children w 0) (childSeen children w (w .count - 1))) (sym (seen-two children cuts v w g (two-edges l)))
-      (let a : 1 ≡ w .count - 1 = omega (arith, two-edges l) in subst (λ (j : ℕ). joined.Sides (cut (childSeen children w 0) 1 (last (childSeen children w 1))) (childSeen children w 0) (childSeen children w j)) a joined.two))
+      (λ e. subst (λ (x : Pieces ℕ). joined.HighLow x (childSeen children w 0) (childSeen children w (w .count - 1))) (sym (seen-one children cuts v w (sym e)))
+      (let a : 0 ≡ w .count - 1 = omega (arith, e) in subst (λ (j : ℕ). joined.HighLow (last (childSeen children w 0)) (childSeen children w 0) (childSeen children w j)) a joined.one))
+      (λ l. subst (λ (x : Pieces ℕ). joined.HighLow x (childSeen children w 0) (childSeen children w (w .count - 1))) (sym (seen-two children cuts v w g (two-edges l)))
+      (let a : 1 ≡ w .count - 1 = omega (arith, two-edges l) in subst (λ (j : ℕ). joined.HighLow (cut (childSeen children w 0) 1 (last (childSeen children w 1))) (childSeen children w 0) (childSeen children w j)) a joined.two))
       (eq-or-lt-of-le some)
 
 -- The edge that `edge_of` names.
