@@ -10,14 +10,13 @@ use lib.IntN.{ℤ}
 use Rattle.ids.specs.Id.{FALSE}
 use Rattle.ids.specs.Index.{KnownTo}
 use Rattle.ranges.specs.Line.{Key}
-use Rattle.ranges.specs.Bounding.{Keyed, inside, empty, nearest}
+use Rattle.ranges.specs.Bounding.{inside, empty}
 use Rattle.ranges.specs.Comparing.{compares}
 use Rattle.ranges.specs.declared.bounds.Bound.{Bound}
 use Rattle.ranges.specs.declared.bounds.Comparison.{Comparison}
-use Rattle.ranges.proofs.Nearest.{place-nearest}
 use Rattle.diagram.specs.Table.{firstBoolean, variables, Table}
 use Rattle.diagram.specs.Sound.{Known, Sound, same}
-use Rattle.diagram.specs.Reading.{Reading, says, atPlace, switched}
+use Rattle.diagram.specs.Reading.{Reading, says, switched}
 use Rattle.algebra.specs.Conditions.{from-range, comparison, from-bool}
 use Rattle.algebra.specs.Conjunction.{and, or}
 use Rattle.algebra.specs.Changing.{restrict, narrow, widen}
@@ -31,13 +30,9 @@ use Rattle.table.specs.Held.{held}
 use Rattle.table.specs.Told.{done, Allowed}
 use Rattle.table.proofs.Once.{sound-once}
 use Rattle.table.proofs.Promises.{holds-a-sound-table, counts-what-is-held}
-use Rattle.kernel.specs.Makes.{Makes, made-1, made-2, made-3, made-4, made-6, made-0, BothKnown, FromRange, Compares, FromBool, Lending, WithMemo, Ands, Ors, Restricts, Narrows, Widens, Disjoints, disjoint-1, disjoint-2, disjoint-3, disjoint-0}
-use Rattle.kernel.specs.Meaning.{Answered, HasRoom, DoneOrNoRoom, EmptyAnswered, EmptyDoneOrNoRoom}
+use Rattle.kernel.specs.Makes.{Makes, made-1, made-2, made-3, made-4, made-6, made-0, BothKeyed, BothKnown, FromRange, Compares, FromBool, Lending, WithMemo, Ands, Ors, Restricts, Narrows, Widens, Disjoints, disjoint-1, disjoint-2, disjoint-3, disjoint-0}
+use Rattle.kernel.specs.Meaning.{atNearest, AnswersAlways, Answered, HasRoom, DoneOrNoRoom, EmptyAnswered, EmptyDoneOrNoRoom}
 use Rattle.kernel.proofs.Once.{leaves-fits, makes-once}
-
--- An operation that is right: from every sound table that knows its ids it answers with m, which says of each reading yes or no.
-abbrev pub AnswersAlways : (ℕ → Type 0) → Type 0 → (Table → Table × ℕ) → (Table → Reading → Bool) → Type 0
-AnswersAlways known kind want m = (t : Table) → Sound t → known (length t) → kind → Answers t (m t) (want t)
 
 module _ (lent : Type 0) (known : ℕ → Type 0) (kind : Type 0) (want : Table → Table × ℕ) (m : Table → Reading → Bool) (right : AnswersAlways known kind want m)
     (st : Store) (index memo : List ℕ) where
@@ -86,10 +81,6 @@ module _ (lent : Type 0) (known : ℕ → Type 0) (kind : Type 0) (want : Table 
   refused-changes-nothing (made-6 l u s a v f) e = (refl, refl, refl)
   refused-changes-nothing (made-0 l u s a v _ _ h) e = absurd (e refl)
 
--- The same reading with variable v at "the nearest place inside the bounds".
-abbrev pub atNearest : (v : ℕ) (lower upper : Bound) → Keyed lower → Keyed upper → Reading → Reading
-atNearest v lower upper kl ku ρ = atPlace ρ v (nearest lower upper (ρ .place v)) (place-nearest lower upper kl ku (ρ .place v) (ρ .within v))
-
 -- Narrowing by empty bounds has one answer: under each reading the id's answer either is steady or still changes.
 module _ (t : Table) (z : Sound t) (v : ℕ) (hv : v < firstBoolean) (id : ℕ) (k : Known t id) where
   pub empty-answer-exists : (m : Reading → Bool) × EmptyAnswer t v id m
@@ -110,8 +101,8 @@ module _ (t : Table) (z : Sound t) (v : ℕ) (hv : v < firstBoolean) (id : ℕ) 
   empty-answer-once m m′ h h′ ρ = ⊎-elim (λ s. h ρ .1 s ∙ sym (h′ ρ .1 s)) (λ c. h ρ .0 c ∙ sym (h′ ρ .0 c)) (steady-or-changing t z v hv id k ρ)
 
 -- The operations are right.
-from-range-right : (v : ℕ) (lower upper : Bound) → Keyed lower → Keyed upper → AnswersAlways (λ u. Unit {0}) (v < firstBoolean) (λ t. from-range t v lower upper) (λ t ρ. inside lower upper (ρ .place v))
-from-range-right v lower upper kl ku t z a h = from-range-answers t z v h lower upper kl ku
+from-range-right : (v : ℕ) (lower upper : Bound) → BothKeyed lower upper → AnswersAlways (λ u. Unit {0}) (v < firstBoolean) (λ t. from-range t v lower upper) (λ t ρ. inside lower upper (ρ .place v))
+from-range-right v lower upper keys t z a h = from-range-answers t z v h lower upper (keys .0) (keys .1)
 
 comparison-right : (v : ℕ) (op : Comparison) (key : ℤ) → Key key → AnswersAlways (λ u. Unit {0}) (v < firstBoolean) (λ t. comparison t v op key) (λ t ρ. compares op key (ρ .place v))
 comparison-right v op key kk t z a h = comparison-answers t z v h op key kk
@@ -135,19 +126,19 @@ restrict-range-right id v value b t z a h = rw (restrict-range t z id a v b valu
 abbrev emptied : ℕ → ℕ → Bound → Bound → Table → Reading → Bool
 emptied id v lower upper t ρ = says ((narrow t v lower upper id) .0) ρ ((narrow t v lower upper id) .1)
 
-module _ (id v : ℕ) (lower upper : Bound) (kl : Keyed lower) (ku : Keyed upper) where
-  narrow-right : empty lower upper ≡ false → AnswersAlways (λ u. KnownTo u id) (v < firstBoolean) (λ t. narrow t v lower upper id) (λ t ρ. says t (atNearest v lower upper kl ku ρ) id)
-  narrow-right e t z a h = narrow-answers t z id a v h lower upper kl ku e
+module _ (id v : ℕ) (lower upper : Bound) (keys : BothKeyed lower upper) where
+  narrow-right : empty lower upper ≡ false → AnswersAlways (λ u. KnownTo u id) (v < firstBoolean) (λ t. narrow t v lower upper id) (λ t ρ. says t (atNearest v lower upper keys ρ) id)
+  narrow-right e t z a h = narrow-answers t z id a v h lower upper (keys .0) (keys .1) e
 
   widen-right : AnswersAlways (λ u. KnownTo u id) (v < firstBoolean) (λ t. widen t v lower upper id) (λ t ρ. says t ρ id && inside lower upper (ρ .place v))
-  widen-right t z a h = widen-answers t z id a v h lower upper kl ku
+  widen-right t z a h = widen-answers t z id a v h lower upper (keys .0) (keys .1)
 
   -- where the bounds are empty, what narrowing makes says what is asked
   module _ (e : empty lower upper ≡ true) where
     emptied-as-asked : (t : Table) → Sound t → KnownTo (length t) id → v < firstBoolean → EmptyAnswer t v id (emptied id v lower upper t)
     emptied-as-asked t z a h =
         let m = empty-answer-exists t z v h id a in
-        let x = narrow-empty-answers t z id a v h lower upper kl ku e (m .0) (m .1) in
+        let x = narrow-empty-answers t z id a v h lower upper (keys .0) (keys .1) e (m .0) (m .1) in
         λ ρ. (λ c. x .right .means ρ ∙ (m .1) ρ .0 c, λ s. x .right .means ρ ∙ (m .1) ρ .1 s)
 
     emptied-here : (st : Store) (index : List ℕ) (u : ℕ) → SoundLent st index u → KnownTo u id → v < firstBoolean
@@ -156,24 +147,24 @@ module _ (id v : ℕ) (lower upper : Bound) (kl : Keyed lower) (ku : Keyed upper
         emptied-as-asked (held st u) (holds-a-sound-table st index u s) (subst (λ (n : ℕ). KnownTo n id) (sym ((counts-what-is-held st index u s) .0)) a) h
 
     narrow-empty-right : AnswersAlways (λ u. KnownTo u id) (v < firstBoolean) (λ t. narrow t v lower upper id) (emptied id v lower upper)
-    narrow-empty-right t z a h = narrow-empty-answers t z id a v h lower upper kl ku e (emptied id v lower upper t) (emptied-as-asked t z a h)
+    narrow-empty-right t z a h = narrow-empty-answers t z id a v h lower upper (keys .0) (keys .1) e (emptied id v lower upper t) (emptied-as-asked t z a h)
 
 -- The calls that may add nodes: what the id says beside 0, and that 0 or 6 is told by whether there is room.
 module _ (st : Store) (index : List ℕ) where
   module _ (v : ℕ) {k id : ℕ} {st′ : Store} {index′ : List ℕ} where
     -- Step 3: a range by two bounds holds where the place is inside,
-    pub from-range-answered : (lower upper : Bound) → Keyed lower → Keyed upper → FromRange st index v lower upper k id st′ index′ → k ≡ done → Answered (λ s ρ. inside lower upper (ρ .place v)) st index id st′ index′
-    from-range-answered lower upper kl ku o = answered _ _ _ _ _ (from-range-right v lower upper kl ku) st index _ o
+    pub from-range-answered : (lower upper : Bound) → FromRange st index v lower upper k id st′ index′ → k ≡ done → Answered (λ s ρ. inside lower upper (ρ .place v)) st index id st′ index′
+    from-range-answered lower upper (keys, o) = answered _ _ _ _ _ (from-range-right v lower upper keys) st index _ o
 
-    pub from-range-room : (lower upper : Bound) → Keyed lower → Keyed upper → FromRange st index v lower upper k id st′ index′ → Allowed st index → (u : ℕ) → SoundLent st index u → v < firstBoolean → DoneOrNoRoom (λ s ρ. inside lower upper (ρ .place v)) st u k
-    from-range-room lower upper kl ku o l u s h = done-or-no-room _ _ _ _ _ (from-range-right v lower upper kl ku) st index _ o l u s tt h
+    pub from-range-room : (lower upper : Bound) → FromRange st index v lower upper k id st′ index′ → Allowed st index → (u : ℕ) → SoundLent st index u → v < firstBoolean → DoneOrNoRoom (λ s ρ. inside lower upper (ρ .place v)) st u k
+    from-range-room lower upper (keys, o) l u s h = done-or-no-room _ _ _ _ _ (from-range-right v lower upper keys) st index _ o l u s tt h
 
     -- a comparison where the place compares so with the key,
-    pub comparison-answered : (op : Comparison) (key : ℤ) → Key key → Compares st index v op key k id st′ index′ → k ≡ done → Answered (λ s ρ. compares op key (ρ .place v)) st index id st′ index′
-    comparison-answered op key kk o = answered _ _ _ _ _ (comparison-right v op key kk) st index _ o
+    pub comparison-answered : (op : Comparison) (key : ℤ) → Compares st index v op key k id st′ index′ → k ≡ done → Answered (λ s ρ. compares op key (ρ .place v)) st index id st′ index′
+    comparison-answered op key (kk, o) = answered _ _ _ _ _ (comparison-right v op key kk) st index _ o
 
-    pub comparison-room : (op : Comparison) (key : ℤ) → Key key → Compares st index v op key k id st′ index′ → Allowed st index → (u : ℕ) → SoundLent st index u → v < firstBoolean → DoneOrNoRoom (λ s ρ. compares op key (ρ .place v)) st u k
-    comparison-room op key kk o l u s h = done-or-no-room _ _ _ _ _ (comparison-right v op key kk) st index _ o l u s tt h
+    pub comparison-room : (op : Comparison) (key : ℤ) → Compares st index v op key k id st′ index′ → Allowed st index → (u : ℕ) → SoundLent st index u → v < firstBoolean → DoneOrNoRoom (λ s ρ. compares op key (ρ .place v)) st u k
+    comparison-room op key (kk, o) l u s h = done-or-no-room _ _ _ _ _ (comparison-right v op key kk) st index _ o l u s tt h
 
     -- and a boolean where it is yes.
     pub from-bool-answered : FromBool st index v k id st′ index′ → k ≡ done → Answered (λ s ρ. ρ .holds v) st index id st′ index′
@@ -215,43 +206,43 @@ module _ (st : Store) (index : List ℕ) where
         → DoneOrNoRoom (λ s ρ. says s ρ id) st u k
     restrict-range-room value b o l u s a = done-or-no-room _ _ _ _ _ (restrict-range-right id v value b) st index memo o l u s a (omega arith)
 
-    module _ (lower upper : Bound) (kl : Keyed lower) (ku : Keyed upper) where
+    module _ (lower upper : Bound) where
       -- Narrowing: "the answer at a place is the old answer at the nearest place inside the bounds";
-      pub narrow-answered : empty lower upper ≡ false → Narrows st index memo id v lower upper k to st′ index′ memo′ → k ≡ done
-          → Answered (λ s ρ. says s (atNearest v lower upper kl ku ρ) id) st index to st′ index′
-      narrow-answered e o = answered _ _ _ _ _ (narrow-right id v lower upper kl ku e) st index memo o
+      pub narrow-answered : empty lower upper ≡ false → (o : Narrows st index memo id v lower upper k to st′ index′ memo′) → k ≡ done
+          → Answered (λ s ρ. says s (atNearest v lower upper (o .0) ρ) id) st index to st′ index′
+      narrow-answered e o = answered _ _ _ _ _ (narrow-right id v lower upper (o .0) e) st index memo (o .1)
 
-      pub narrow-room : empty lower upper ≡ false → Narrows st index memo id v lower upper k to st′ index′ memo′ → Lending st index memo → (u : ℕ) → SoundLent st index u → KnownTo u id → v < firstBoolean
-          → DoneOrNoRoom (λ s ρ. says s (atNearest v lower upper kl ku ρ) id) st u k
-      narrow-room e o l u s a h = done-or-no-room _ _ _ _ _ (narrow-right id v lower upper kl ku e) st index memo o l u s a h
+      pub narrow-room : empty lower upper ≡ false → (o : Narrows st index memo id v lower upper k to st′ index′ memo′) → Lending st index memo → (u : ℕ) → SoundLent st index u → KnownTo u id → v < firstBoolean
+          → DoneOrNoRoom (λ s ρ. says s (atNearest v lower upper (o .0) ρ) id) st u k
+      narrow-room e o l u s a h = done-or-no-room _ _ _ _ _ (narrow-right id v lower upper (o .0) e) st index memo (o .1) l u s a h
 
       -- "with empty bounds the answer is FALSE wherever, the earlier variables being fixed, the old answer still changes with the chosen
       -- one; elsewhere it is the old answer".
       pub narrow-empty-answered : empty lower upper ≡ true → Narrows st index memo id v lower upper k to st′ index′ memo′ → k ≡ done → EmptyAnswered id v st index to st′ index′
-      narrow-empty-answered e o d =
-          let x = answered _ _ _ _ _ (narrow-empty-right id v lower upper kl ku e) st index memo o d in
+      narrow-empty-answered e (keys, o) d =
+          let x = answered _ _ _ _ _ (narrow-empty-right id v lower upper keys e) st index memo o d in
           let y = done-admitted _ _ _ _ st index o d in
           record {
             m = emptied id v lower upper (held st (x .before));
             answered = record { before = x .before; found = x .found; after = x .after; left = x .left; answers = x .answers };
-            empties = emptied-here id v lower upper kl ku e st index (x .before) (x .found) (subst (λ (u : ℕ). KnownTo u id) (sound-once st index (y .0) (x .before) (y .1) (x .found)) (y .2)) (y .3);
+            empties = emptied-here id v lower upper keys e st index (x .before) (x .found) (subst (λ (u : ℕ). KnownTo u id) (sound-once st index (y .0) (x .before) (y .1) (x .found)) (y .2)) (y .3);
           }
 
       pub narrow-empty-room : empty lower upper ≡ true → Narrows st index memo id v lower upper k to st′ index′ memo′ → Lending st index memo → (u : ℕ) → SoundLent st index u → KnownTo u id → v < firstBoolean
           → EmptyDoneOrNoRoom id v st u k
-      narrow-empty-room e o l u s a h = record {
+      narrow-empty-room e (keys, o) l u s a h = record {
         m = emptied id v lower upper (held st u);
-        empties = emptied-here id v lower upper kl ku e st index u s a h;
-        told = done-or-no-room _ _ _ _ _ (narrow-empty-right id v lower upper kl ku e) st index memo o l u s a h;
+        empties = emptied-here id v lower upper keys e st index u s a h;
+        told = done-or-no-room _ _ _ _ _ (narrow-empty-right id v lower upper keys e) st index memo o l u s a h;
       }
 
       -- Widening: "old answer and inside the bounds".
       pub widen-answered : Widens st index memo id v lower upper k to st′ index′ memo′ → k ≡ done → Answered (λ s ρ. says s ρ id && inside lower upper (ρ .place v)) st index to st′ index′
-      widen-answered o = answered _ _ _ _ _ (widen-right id v lower upper kl ku) st index memo o
+      widen-answered (keys, o) = answered _ _ _ _ _ (widen-right id v lower upper keys) st index memo o
 
       pub widen-room : Widens st index memo id v lower upper k to st′ index′ memo′ → Lending st index memo → (u : ℕ) → SoundLent st index u → KnownTo u id → v < firstBoolean
           → DoneOrNoRoom (λ s ρ. says s ρ id && inside lower upper (ρ .place v)) st u k
-      widen-room o l u s a h = done-or-no-room _ _ _ _ _ (widen-right id v lower upper kl ku) st index memo o l u s a h
+      widen-room (keys, o) l u s a h = done-or-no-room _ _ _ _ _ (widen-right id v lower upper keys) st index memo o l u s a h
 
 -- Step 6: disjointness beside 0 is yes exactly when no reading makes both true.
 pub disjoint-told : (st : Store) (index : List ℕ) (x y : ℕ) {k : ℕ} {b : Bool} → Disjoints st index x y k b → k ≡ done

@@ -8,6 +8,8 @@ use lib.ListN.{length, replicate}
 use lib.IntN.{ℤ}
 use Rattle.ids.specs.Id.{FALSE}
 use Rattle.ids.specs.Index.{KnownTo}
+use Rattle.ranges.specs.Line.{Key}
+use Rattle.ranges.specs.Bounding.{Keyed}
 use Rattle.ranges.specs.declared.bounds.Bound.{Bound}
 use Rattle.ranges.specs.declared.bounds.Comparison.{Comparison}
 use Rattle.diagram.specs.Table.{firstBoolean, variables, Table}
@@ -70,6 +72,10 @@ Outcomes = ℕ → ℕ → Store → List ℕ → Type 0
 abbrev pub MemoOutcomes : Type 1
 MemoOutcomes = ℕ → ℕ → Store → List ℕ → List ℕ → Type 0
 
+-- The numbers of two bounds are keys.
+abbrev pub BothKeyed : Bound → Bound → Type 0
+BothKeyed lower upper = Keyed lower × Keyed upper
+
 -- Both of two ids are known, where u nodes are used.
 abbrev pub BothKnown : ℕ → ℕ → ℕ → Type 0
 BothKnown x y u = KnownTo u x × KnownTo u y
@@ -80,13 +86,15 @@ module _ (st : Store) (index : List ℕ) where
   Conditions kind want number id st′ index′ =
       Makes (Allowed st index) (λ u. Unit {0}) kind want st index [] number id st′ index′ []
 
-  -- "A range by two bounds". Of kinds, "a range condition .. ask[s] a range variable".
+  -- "A range by two bounds". Of kinds, "a range condition .. ask[s] a range variable". Each number that a call can be given in a bound is
+  -- a key: no outcome has to refuse one.
   abbrev pub FromRange : ℕ → Bound → Bound → Outcomes
-  FromRange v lower upper = Conditions (v < firstBoolean) (λ t. from-range t v lower upper)
+  FromRange v lower upper number id st′ index′ =
+      BothKeyed lower upper × Conditions (v < firstBoolean) (λ t. from-range t v lower upper) number id st′ index′
 
   -- "Six comparisons with a key", which are range conditions too.
   abbrev pub Compares : ℕ → Comparison → ℤ → Outcomes
-  Compares v op key = Conditions (v < firstBoolean) (λ t. comparison t v op key)
+  Compares v op key number id st′ index′ = Key key × Conditions (v < firstBoolean) (λ t. comparison t v op key) number id st′ index′
 
   -- "A boolean condition asks a boolean one"; "64 or more" is no variable.
   abbrev pub FromBool : ℕ → Outcomes
@@ -122,11 +130,13 @@ module _ (st : Store) (index : List ℕ) where
 
     -- "Narrowing .. for any one range variable", by two bounds. Of kinds, "narrowing and widening ask a range variable".
     abbrev pub Narrows : ℕ → ℕ → Bound → Bound → MemoOutcomes
-    Narrows id v lower upper = Changes id (v < firstBoolean) (λ t. narrow t v lower upper id)
+    Narrows id v lower upper number to st′ index′ memo′ =
+        BothKeyed lower upper × Changes id (v < firstBoolean) (λ t. narrow t v lower upper id) number to st′ index′ memo′
 
     -- "Widening .. : old answer and inside the bounds".
     abbrev pub Widens : ℕ → ℕ → Bound → Bound → MemoOutcomes
-    Widens id v lower upper = Changes id (v < firstBoolean) (λ t. widen t v lower upper id)
+    Widens id v lower upper number to st′ index′ memo′ =
+        BothKeyed lower upper × Changes id (v < firstBoolean) (λ t. widen t v lower upper id) number to st′ index′ memo′
 
   -- "Disjointness and reading borrow no memo and change nothing": the number, and the answer. "A yes/no call returns no beside any refusal."
   module _ (x y : ℕ) where

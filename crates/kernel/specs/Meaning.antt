@@ -7,15 +7,28 @@ use mathlib.Core.Logic.{_⊎_}
 use Prim.Native.Nat.{ℕ}
 use lib.ListN.{length}
 use lib.IntN.{ℤ}
+use Rattle.ranges.specs.Bounding.{nearest}
+use Rattle.ranges.specs.declared.bounds.Bound.{Bound}
+use Rattle.ranges.proofs.Nearest.{place-nearest}
 use Rattle.diagram.specs.Table.{Table}
-use Rattle.diagram.specs.Reading.{Reading}
+use Rattle.diagram.specs.Sound.{Sound}
+use Rattle.diagram.specs.Reading.{Reading, atPlace}
 use Rattle.algebra.specs.Answering.{Answers, Answerable}
 use Rattle.algebra.specs.Emptying.{EmptyAnswer}
 use Rattle.table.specs.Layout.{room, Store}
 use Rattle.table.specs.Lent.{SoundLent}
 use Rattle.table.specs.Held.{held}
 use Rattle.table.specs.Told.{done}
-use Rattle.kernel.specs.Makes.{noRoom}
+use Rattle.kernel.specs.Makes.{noRoom, BothKeyed}
+
+-- The same reading with variable v at "the nearest place inside the bounds".
+abbrev pub atNearest : (v : ℕ) (lower upper : Bound) → BothKeyed lower upper → Reading → Reading
+atNearest v lower upper keys ρ = atPlace ρ v (nearest lower upper (ρ .place v)) (place-nearest lower upper (keys .0) (keys .1) (ρ .place v) (ρ .within v))
+
+-- "Gives exactly the asked condition": from every sound table that knows the ids, with a variable of the kind that is asked, what an
+-- operation makes answers with m, which says of each reading yes or no.
+abbrev pub AnswersAlways : (ℕ → Type 0) → Type 0 → (Table → Table × ℕ) → (Table → Reading → Bool) → Type 0
+AnswersAlways known kind want m = (t : Table) → Sound t → known (length t) → kind → Answers t (m t) (want t)
 
 -- Done: the words before the call and those after it are sound tables, and the one after it, with the id, answers from the one before it.
 -- So it continues it, the id says under every reading what m says, and each node that was added is reached from the id.
