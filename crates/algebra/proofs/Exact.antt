@@ -14,11 +14,11 @@ use Rattle.diagram.specs.Table.{Node, Table, at, value}
 use Rattle.diagram.specs.Sound.{Known, Sound, Continues, same}
 use Rattle.diagram.specs.Reading.{Reading, positions, says}
 use Rattle.diagram.specs.Room.{width, edgeTotal, Fits}
-use Rattle.diagram.specs.Ordered.{Ordered, down, sum, diagramOf}
+use Rattle.diagram.specs.Ordered.{Ordered, diagramOf}
 use Rattle.diagram.proofs.Lookup.{at-new, at-old}
 use Rattle.diagram.proofs.Facts.{facts-at}
 use Rattle.diagram.proofs.Continuing.{continues-length, continues-at, continues-value, continues-same}
-use Rattle.diagram.proofs.Counting.{falling-down, mem-down, down-mem, Partner, sum-partners-le, sum-down}
+use Rattle.diagram.proofs.Counting.{down, sum, once-down, mem-down, down-mem, Partner, sum-partners-le, sum-down}
 use Rattle.diagram.proofs.Diagrams.{width-runs, sound-ordered, tells-value}
 use Rattle.diagram.proofs.Fewest.{is-vertex, IsNode, reached-has-twin, Pair, pair-inj, width-le-partner}
 use Rattle.diagram.proofs.Apart.{same-value-same-id}
@@ -96,7 +96,7 @@ module _ (t : Table) (m : Reading → Bool) (out : Table × ℕ) (x : Answers t 
         some = hk;
         inside = k .inside;
         pair = record { of = w .of; to = k .to; of-ref = w .ref-is; to-ref = refl; inside = nx .inside; same = k .same };
-        wide = rw (w .ref-is, width-runs s (ref (k .to)) hk) at (width-le-partner t′ z (diagramOf s) os (w .of) i nx k);
+        wide = rw (w .ref-is, width-runs s (ref (k .to))) at (width-le-partner t′ z (diagramOf s) os (w .of) i nx k);
       }
 
   match : (r : ℕ) → 0 < r → r ≤ length t′ → Match r
@@ -113,7 +113,7 @@ module _ (t : Table) (m : Reading → Bool) (out : Table × ℕ) (x : Answers t 
       record { to = k .to; there = mem-down (length s) (k .to) (k .some) (k .inside); pair = k .pair; lighter = f r k }
 
   weighed : (w w′ : ℕ → ℕ) → ((r : ℕ) (k : Match r) → w r ≤ w′ (k .to)) → sum w (down (length t′)) ≤ sum w′ (down (length s))
-  weighed w w′ f = sum-partners-le w w′ Pairs (pair-inj t′ z (diagramOf s) os) (suc (length t′)) (down (length t′)) (falling-down (length t′)) (down (length s)) (partner w w′ f)
+  weighed w w′ f = sum-partners-le w w′ Pairs (pair-inj t′ z (diagramOf s) os) (down (length t′)) (once-down (length t′)) (down (length s)) (partner w w′ f)
 
   pub no-smaller : AtLeast (out .0) s
   no-smaller = record {
