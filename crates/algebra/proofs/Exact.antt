@@ -133,8 +133,8 @@ fits-less nodes edges t s a f = record {
 -- an answer fits a room exactly when the operation's own result does
 pub room-exact : (t : Table) (m : Reading → Bool) (out : Table × ℕ) → Answers t m out → (nodes edges : ℕ) → Answerable nodes edges t m ↔ Fits nodes edges (out .0)
 room-exact t m out x nodes edges = (
-  λ a. fits-less nodes edges (out .0) (a .table) (no-smaller t m out x (a .table) (a .sound) (a .continues) (a .id) (a .known) (a .means)) (a .fits),
-  λ f. record { table = out .0; sound = x .right .sound; continues = x .right .continues; fits = f; id = out .1; known = x .right .known; means = x .right .means },
+  λ a. fits-less nodes edges (out .0) (a .out .0) (no-smaller t m out x (a .out .0) (a .right .sound) (a .right .continues) (a .out .1) (a .right .known) (a .right .means)) (a .fits),
+  λ f. record { out = out; right = x .right; fits = f },
 )
 
 -- and a table that holds the answer already stays as it is

@@ -1,6 +1,6 @@
 -- Theorem 8: C1 to C12, the starred cases, as one table under one statement, by computing. Assumes nothing.
+use mathlib.Core.Path.{refl}
 use mathlib.Core.List.{[]}
-use lib.Dec.{T}
 use Rattle.diagram.specs.Table.{at, truth, value}
 use Rattle.diagram.specs.Cofactor.{map, edgesOf}
 use Rattle.algebra.specs.Overlay.{below, beside, above, overlay, join, merge}
@@ -8,8 +8,8 @@ use Rattle.algebra.specs.Making.{find, intern, firstSign, settle}
 use Rattle.algebra.specs.Conditions.{upTo, between, from-range, comparison, from-bool}
 use Rattle.algebra.specs.Conjunction.{walk, walkBack, walkIn, opening, conj-node, conj-step, conj, or}
 use Rattle.algebra.specs.Disjointness.{every, disjoint-step, disjoint}
-use Rattle.algebra.specs.Cases.{hold, starred}
+use Rattle.algebra.specs.Cases.{Hold, starred}
 
-pub starred-cases-hold : T (hold [] starred)
-unfolding at truth value map edgesOf below beside above overlay join merge find intern firstSign settle upTo between from-range comparison from-bool walk walkBack walkIn opening conj-node conj-step conj or every disjoint-step disjoint hold starred
-starred-cases-hold = tt
+pub starred-cases-hold : Hold [] starred
+unfolding at truth value map edgesOf below beside above overlay join merge find intern firstSign settle upTo between from-range comparison from-bool walk walkBack walkIn opening conj-node conj-step conj or every disjoint-step disjoint starred
+starred-cases-hold = (refl, (refl, (refl, (refl, (refl, (refl, (refl, (refl, (refl, (refl, (refl, (refl, (refl, (refl, (refl, (refl, tt))))))))))))))))

@@ -26,13 +26,9 @@ pub record Answers (t : Table) (m : Reading → Bool) (out : Table × ℕ) : Typ
 -- Some sound table that continues t, within a room for nodes, a room for edges and the 64 edges a node, holds the answer m: row 6
 -- is "given exactly when" there is none.
 pub record Answerable (nodes edges : ℕ) (t : Table) (m : Reading → Bool) : Type 0 where
-  pub table : Table
-  pub sound : Sound table
-  pub continues : Continues t table
-  pub fits : Fits nodes edges table
-  pub id : ℕ
-  pub known : Known table id
-  pub means : (ρ : Reading) → says table ρ id ≡ m ρ
+  pub out : Table × ℕ
+  pub right : Right t m out
+  pub fits : Fits nodes edges (out .0)
 
 -- At least the nodes and the edges of another table, and for each of its nodes one at least as wide.
 pub record AtLeast (t s : Table) : Type 0 where

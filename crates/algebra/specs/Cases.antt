@@ -1,15 +1,16 @@
 -- The starred cases. Document 01, "Ids from a fresh table": x is variable 0, a is 32. Assumes nothing.
-use mathlib.Core.Bool.{Bool, true, false, not, _&&_}
+use mathlib.Core.Path.{_≡_}
+use mathlib.Core.Bool.{Bool, true, false}
 use mathlib.Core.List.{List, [], _∷_}
 use Prim.Native.Nat.{ℕ}
-use lib.Dec.{eqb}
 use lib.IntN.{ℤ, pos}
 use lib.Signed.{leZ-yes}
 use Rattle.ids.specs.Id.{FALSE}
+use Rattle.ranges.specs.Line.{Place}
 use Rattle.ranges.specs.declared.bounds.Bound.the-variants.{Excludes}
 use Rattle.ranges.specs.declared.bounds.Comparison.the-variants.{Equal, NotEqual, LessThan, LessEqual, GreaterEqual}
 use Rattle.diagram.specs.Table.{Table}
-use Rattle.diagram.specs.Reading.{Reading, says, lowestReading, atPlace}
+use Rattle.diagram.specs.Reading.{Reading, says}
 use Rattle.algebra.specs.Conditions.{from-range, comparison, from-bool}
 use Rattle.algebra.specs.Conjunction.{and, or}
 use Rattle.algebra.specs.Disjointness.{is-disjoint}
@@ -25,26 +26,15 @@ pub data Case : Type 0 where
   gives : (Table → Table × ℕ) → ℕ → Case
   asks : (Table → Bool) → Bool → Case
 
-abbrev same : Bool → Bool → Bool
-same true q = q
-same false q = not q
-
--- Whether all cases of a list come out so, one after the other.
-unfoldable pub hold : Table → List Case → Bool
-hold t [] = true
-hold t (gives f id ∷ cs) = let out = f t in eqb (out .1) id && hold (out .0) cs
-hold t (asks f b ∷ cs) = same (f t) b && hold t cs
-
--- "open (1,2) gives 15, and is disjoint with x=1": with the condition made after it.
-abbrev pub disjointWith : ℕ → ℤ → Table → Bool
-disjointWith id key t = let out = comparison t x Equal key in is-disjoint (out .0) id (out .1)
+-- All cases of a list come out so, one after the other.
+abbrev pub Hold : Table → List Case → Type 0
+Hold t [] = Unit {0}
+Hold t (gives f id ∷ cs) = let out = f t in (out .1 ≡ id) × Hold (out .0) cs
+Hold t (asks f b ∷ cs) = (f t ≡ b) × Hold t cs
 
 -- a true, and x at a place
-abbrev pub xAt8 : Reading
-xAt8 = atPlace lowestReading x (pos 8) (leZ-yes tt, leZ-yes tt)
-
-abbrev pub xAt10 : Reading
-xAt10 = atPlace lowestReading x (pos 10) (leZ-yes tt, leZ-yes tt)
+abbrev pub xAt : (p : ℤ) → Place p → Reading
+xAt p h = record { place = λ v. p; holds = λ v. true; within = λ v. h }
 
 unfoldable pub starred : List Case
 starred =
@@ -62,11 +52,11 @@ starred =
     ∷ gives (λ t. from-bool t a) 8
     ∷ gives (λ t. and t 2 8) 10
     ∷ gives (λ t. or t 2 8) 12
-    -- C11* open (1,2) gives 15, and is disjoint with x=1 and with x=2.
+    -- C11* open (1,2) gives 15, and is disjoint with x=1 and with x=2, conditions that are made after it.
     ∷ gives (λ t. from-range t x (Excludes (pos 1)) (Excludes (pos 2))) 15
-    ∷ asks (disjointWith 15 (pos 1)) true
-    ∷ asks (disjointWith 15 (pos 2)) true
+    ∷ asks (λ t. let out = comparison t x Equal (pos 1) in is-disjoint (out .0) 15 (out .1)) true
+    ∷ asks (λ t. let out = comparison t x Equal (pos 2) in is-disjoint (out .0) 15 (out .1)) true
     -- C12* 10 at place 8 with a true: yes; at place 10: no.
-    ∷ asks (λ t. says t xAt8 10) true
-    ∷ asks (λ t. says t xAt10 10) false
+    ∷ asks (λ t. says t (xAt (pos 8) (leZ-yes tt, leZ-yes tt)) 10) true
+    ∷ asks (λ t. says t (xAt (pos 10) (leZ-yes tt, leZ-yes tt)) 10) false
     ∷ []

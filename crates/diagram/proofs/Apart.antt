@@ -10,9 +10,8 @@ use Rattle.ids.specs.Id.{sign, ref, under}
 use Rattle.ids.proofs.Signs.{under-inj}
 use Rattle.diagram.specs.Pieces.{Pieces, last, select, count}
 use Rattle.diagram.specs.Table.{variables, topOf, Table, at, Assignment, flipped, value}
-use Rattle.diagram.specs.Cofactor.{map, edgesOf, upd}
+use Rattle.diagram.specs.Cofactor.{map, edgesOf, upd, Within}
 use Rattle.diagram.specs.Sound.{Known, Child, Sound}
-use Rattle.diagram.specs.Reading.{Within}
 use Rattle.diagram.proofs.Piecewise.{differ}
 use Rattle.diagram.proofs.Facts.{facts-at, is-node, is-end, at-inj, origin, truth-origin}
 use Rattle.diagram.proofs.Cofactors.{count-map, map-inj, edges-are-kids, edge-child, value-edge, upd-within}

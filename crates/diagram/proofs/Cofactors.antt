@@ -10,9 +10,8 @@ use Rattle.ids.specs.Id.{sign, ref, under}
 use Rattle.ids.proofs.Signs.{under-inj, ref-under}
 use Rattle.diagram.specs.Pieces.{Pieces, last, cut, select, first, count, Each, Rising, Reduced}
 use Rattle.diagram.specs.Table.{variables, topOf, Table, at, Assignment, flipped, value}
-use Rattle.diagram.specs.Cofactor.{map, edgesOf, upd}
+use Rattle.diagram.specs.Cofactor.{map, edgesOf, upd, Within}
 use Rattle.diagram.specs.Sound.{Known, Child, Sound, Continues}
-use Rattle.diagram.specs.Reading.{Within}
 use Rattle.diagram.proofs.Lookup.{value-under}
 use Rattle.diagram.proofs.Piecewise.{count-pos, each-select, reduced-rising}
 use Rattle.diagram.proofs.Facts.{facts-at, is-node, value-agree}

@@ -13,9 +13,8 @@ use Rattle.ids.specs.Id.{sign, ref, under}
 use Rattle.ids.proofs.Signs.{ref-under}
 use Rattle.diagram.specs.Pieces.{select}
 use Rattle.diagram.specs.Table.{firstBoolean, variables, topOf, Node, Table, at, Assignment, flipped, signed, truth, value}
-use Rattle.diagram.specs.Cofactor.{upd}
+use Rattle.diagram.specs.Cofactor.{upd, Within}
 use Rattle.diagram.specs.Sound.{Known, Child, Sound}
-use Rattle.diagram.specs.Reading.{Within}
 use Rattle.diagram.specs.Room.{width}
 use Rattle.diagram.specs.Ordered.{Run, Diagram, holds, holders, Ordered, Tells, terminal, node, Path, here, via, Reached, diagramOf}
 use Rattle.diagram.proofs.Either.{either-true}

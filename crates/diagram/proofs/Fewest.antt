@@ -11,9 +11,8 @@ use Rattle.ids.specs.Id.{sign, ref, flip, under}
 use Rattle.ids.proofs.Signs.{ref-under, ref-flip}
 use Rattle.diagram.specs.Pieces.{Pieces, select, count}
 use Rattle.diagram.specs.Table.{variables, topOf, Node, Table, at, Assignment, value}
-use Rattle.diagram.specs.Cofactor.{edgesOf, upd}
+use Rattle.diagram.specs.Cofactor.{edgesOf, upd, Within}
 use Rattle.diagram.specs.Sound.{Known, Child, Sound}
-use Rattle.diagram.specs.Reading.{Within}
 use Rattle.diagram.specs.Room.{width}
 use Rattle.diagram.specs.Ordered.{Run, Diagram, holds, Ordered, Path, here, via, Reached, edges, diagramOf}
 use Rattle.diagram.proofs.Lookup.{value-flip}

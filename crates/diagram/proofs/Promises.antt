@@ -12,7 +12,7 @@ use Rattle.ids.specs.Id.{TRUE, FALSE, sign, ref, flip}
 use Rattle.diagram.specs.Pieces.{Pieces, last, cut, count, Reduced}
 use Rattle.diagram.specs.Table.{firstBoolean, isRange, Table, at, Assignment, flipped, value}
 use Rattle.diagram.specs.Sound.{Known, Sound, Continues}
-use Rattle.diagram.specs.Reading.{Reading, positions, says, lowestReading, Within}
+use Rattle.diagram.specs.Reading.{Reading, positions, says, lowestReading}
 use Rattle.diagram.specs.Ordered.{Diagram, Ordered, Tells, Reached, edges, diagramOf}
 use Rattle.diagram.proofs.Lookup.{value-flip}
 use Rattle.diagram.proofs.Facts.{Facts, facts-at, origin}

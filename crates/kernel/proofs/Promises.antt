@@ -10,20 +10,19 @@ use lib.IntN.{ℤ}
 use Rattle.ids.specs.Id.{FALSE}
 use Rattle.ids.specs.Index.{KnownTo}
 use Rattle.ranges.specs.Line.{Key}
-use Rattle.ranges.specs.Bounding.{Keyed, inside, empty, nearest}
+use Rattle.ranges.specs.Bounding.{Keyed, inside, Empty}
 use Rattle.ranges.specs.Comparing.{compares}
 use Rattle.ranges.specs.declared.bounds.Bound.{Bound}
 use Rattle.ranges.specs.declared.bounds.Comparison.{Comparison}
-use Rattle.ranges.proofs.Nearest.{place-nearest}
 use Rattle.diagram.specs.Table.{firstBoolean, variables, Table}
 use Rattle.diagram.specs.Sound.{Known, Sound, same}
-use Rattle.diagram.specs.Reading.{Reading, says, atPlace, switched}
+use Rattle.diagram.specs.Reading.{Reading, says, switched}
 use Rattle.algebra.specs.Conditions.{from-range, comparison, from-bool}
 use Rattle.algebra.specs.Conjunction.{and, or}
 use Rattle.algebra.specs.Changing.{restrict, narrow, widen}
 use Rattle.algebra.specs.Answering.{Answers}
-use Rattle.algebra.specs.Emptying.{StillChanges, Steady, EmptyAnswer}
-use Rattle.algebra.proofs.Emptied.{steady-or-changing}
+use Rattle.algebra.specs.Narrowing.{AtNearest, Steady, EmptyAnswer}
+use Rattle.algebra.proofs.Emptied.{Changing, not-steady, steady-or-changing}
 use Rattle.algebra.proofs.Promises.{from-range-answers, comparison-answers, from-bool-answers, and-answers, or-answers, disjoint-exactly, restrict-answers, restrict-range, narrow-answers, narrow-empty-answers, widen-answers, fits-exactly}
 use Rattle.table.specs.Layout.{room, Store}
 use Rattle.table.specs.Lent.{SoundLent}
@@ -86,28 +85,21 @@ module _ (lent : Type 0) (known : ℕ → Type 0) (kind : Type 0) (want : Table 
   refused-changes-nothing (made-6 l u s a v f) e = (refl, refl, refl)
   refused-changes-nothing (made-0 l u s a v _ _ h) e = absurd (e refl)
 
--- The same reading with variable v at "the nearest place inside the bounds".
-abbrev pub atNearest : (v : ℕ) (lower upper : Bound) → Keyed lower → Keyed upper → Reading → Reading
-atNearest v lower upper kl ku ρ = atPlace ρ v (nearest lower upper (ρ .place v)) (place-nearest lower upper kl ku (ρ .place v) (ρ .within v))
-
 -- Narrowing by empty bounds has one answer: under each reading the id's answer either is steady or still changes.
 module _ (t : Table) (z : Sound t) (v : ℕ) (hv : v < firstBoolean) (id : ℕ) (k : Known t id) where
   pub empty-answer-exists : (m : Reading → Bool) × EmptyAnswer t v id m
   empty-answer-exists = (λ ρ. one ρ (steady-or-changing t z v hv id k ρ), λ ρ. as-asked ρ (steady-or-changing t z v hv id k ρ))
     where
-      one : (ρ : Reading) → Steady t v ρ id ⊎ StillChanges t v ρ id → Bool
+      one : (ρ : Reading) → Steady t v ρ id ⊎ Changing t v ρ id → Bool
       one ρ (inl s) = says t ρ id
       one ρ (inr c) = false
 
-      not-both : (ρ : Reading) → Steady t v ρ id → StillChanges t v ρ id → ⊥
-      not-both ρ s c = c .apart (s (c .one) (c .other) (c .before-one) (c .before-other) (c .after))
-
-      as-asked : (ρ : Reading) (d : Steady t v ρ id ⊎ StillChanges t v ρ id) → (StillChanges t v ρ id → one ρ d ≡ false) × (Steady t v ρ id → one ρ d ≡ says t ρ id)
-      as-asked ρ (inl s) = (λ c. absurd (not-both ρ s c), λ x. refl)
-      as-asked ρ (inr c) = (λ x. refl, λ s. absurd (not-both ρ s c))
+      as-asked : (ρ : Reading) (d : Steady t v ρ id ⊎ Changing t v ρ id) → ((Steady t v ρ id → ⊥) → one ρ d ≡ false) × (Steady t v ρ id → one ρ d ≡ says t ρ id)
+      as-asked ρ (inl s) = (λ f. absurd (f s), λ x. refl)
+      as-asked ρ (inr c) = (λ f. refl, λ s. absurd (not-steady t v ρ id c s))
 
   pub empty-answer-once : (m m′ : Reading → Bool) → EmptyAnswer t v id m → EmptyAnswer t v id m′ → (ρ : Reading) → m ρ ≡ m′ ρ
-  empty-answer-once m m′ h h′ ρ = ⊎-elim (λ s. h ρ .1 s ∙ sym (h′ ρ .1 s)) (λ c. h ρ .0 c ∙ sym (h′ ρ .0 c)) (steady-or-changing t z v hv id k ρ)
+  empty-answer-once m m′ h h′ ρ = ⊎-elim (λ s. h ρ .1 s ∙ sym (h′ ρ .1 s)) (λ c. let f = not-steady t v ρ id c in h ρ .0 f ∙ sym (h′ ρ .0 f)) (steady-or-changing t z v hv id k ρ)
 
 -- The operations are right.
 from-range-right : (v : ℕ) (lower upper : Bound) → Keyed lower → Keyed upper → AnswersAlways (λ u. Unit {0}) (v < firstBoolean) (λ t. from-range t v lower upper) (λ t ρ. inside lower upper (ρ .place v))
@@ -136,14 +128,15 @@ abbrev emptied : ℕ → ℕ → Bound → Bound → Table → Reading → Bool
 emptied id v lower upper t ρ = says ((narrow t v lower upper id) .0) ρ ((narrow t v lower upper id) .1)
 
 module _ (id v : ℕ) (lower upper : Bound) (kl : Keyed lower) (ku : Keyed upper) where
-  narrow-right : empty lower upper ≡ false → AnswersAlways (λ u. KnownTo u id) (v < firstBoolean) (λ t. narrow t v lower upper id) (λ t ρ. says t (atNearest v lower upper kl ku ρ) id)
-  narrow-right e t z a h = narrow-answers t z id a v h lower upper kl ku e
+  narrow-right : (near : Reading → Reading) → ((ρ : Reading) → AtNearest v lower upper ρ (near ρ))
+      → AnswersAlways (λ u. KnownTo u id) (v < firstBoolean) (λ t. narrow t v lower upper id) (λ t ρ. says t (near ρ) id)
+  narrow-right near n t z a h = narrow-answers t z id a v h lower upper kl ku near n
 
   widen-right : AnswersAlways (λ u. KnownTo u id) (v < firstBoolean) (λ t. widen t v lower upper id) (λ t ρ. says t ρ id && inside lower upper (ρ .place v))
   widen-right t z a h = widen-answers t z id a v h lower upper kl ku
 
   -- where the bounds are empty, what narrowing makes says what is asked
-  module _ (e : empty lower upper ≡ true) where
+  module _ (e : Empty lower upper) where
     emptied-as-asked : (t : Table) → Sound t → KnownTo (length t) id → v < firstBoolean → EmptyAnswer t v id (emptied id v lower upper t)
     emptied-as-asked t z a h =
         let m = empty-answer-exists t z v h id a in
@@ -217,17 +210,17 @@ module _ (st : Store) (index : List ℕ) where
 
     module _ (lower upper : Bound) (kl : Keyed lower) (ku : Keyed upper) where
       -- Narrowing: "the answer at a place is the old answer at the nearest place inside the bounds";
-      pub narrow-answered : empty lower upper ≡ false → Narrows st index memo id v lower upper k to st′ index′ memo′ → k ≡ done
-          → Answered (λ s ρ. says s (atNearest v lower upper kl ku ρ) id) st index to st′ index′
-      narrow-answered e o = answered _ _ _ _ _ (narrow-right id v lower upper kl ku e) st index memo o
+      pub narrow-answered : (near : Reading → Reading) → ((ρ : Reading) → AtNearest v lower upper ρ (near ρ)) → Narrows st index memo id v lower upper k to st′ index′ memo′ → k ≡ done
+          → Answered (λ s ρ. says s (near ρ) id) st index to st′ index′
+      narrow-answered near n o = answered _ _ _ _ _ (narrow-right id v lower upper kl ku near n) st index memo o
 
-      pub narrow-room : empty lower upper ≡ false → Narrows st index memo id v lower upper k to st′ index′ memo′ → Lending st index memo → (u : ℕ) → SoundLent st index u → KnownTo u id → v < firstBoolean
-          → DoneOrNoRoom (λ s ρ. says s (atNearest v lower upper kl ku ρ) id) st u k
-      narrow-room e o l u s a h = done-or-no-room _ _ _ _ _ (narrow-right id v lower upper kl ku e) st index memo o l u s a h
+      pub narrow-room : (near : Reading → Reading) → ((ρ : Reading) → AtNearest v lower upper ρ (near ρ)) → Narrows st index memo id v lower upper k to st′ index′ memo′ → Lending st index memo → (u : ℕ) → SoundLent st index u → KnownTo u id → v < firstBoolean
+          → DoneOrNoRoom (λ s ρ. says s (near ρ) id) st u k
+      narrow-room near n o l u s a h = done-or-no-room _ _ _ _ _ (narrow-right id v lower upper kl ku near n) st index memo o l u s a h
 
       -- "with empty bounds the answer is FALSE wherever, the earlier variables being fixed, the old answer still changes with the chosen
       -- one; elsewhere it is the old answer".
-      pub narrow-empty-answered : empty lower upper ≡ true → Narrows st index memo id v lower upper k to st′ index′ memo′ → k ≡ done → EmptyAnswered id v st index to st′ index′
+      pub narrow-empty-answered : Empty lower upper → Narrows st index memo id v lower upper k to st′ index′ memo′ → k ≡ done → EmptyAnswered id v st index to st′ index′
       narrow-empty-answered e o d =
           let x = answered _ _ _ _ _ (narrow-empty-right id v lower upper kl ku e) st index memo o d in
           let y = done-admitted _ _ _ _ st index o d in
@@ -237,7 +230,7 @@ module _ (st : Store) (index : List ℕ) where
             empties = emptied-here id v lower upper kl ku e st index (x .before) (x .found) (subst (λ (u : ℕ). KnownTo u id) (sound-once st index (y .0) (x .before) (y .1) (x .found)) (y .2)) (y .3);
           }
 
-      pub narrow-empty-room : empty lower upper ≡ true → Narrows st index memo id v lower upper k to st′ index′ memo′ → Lending st index memo → (u : ℕ) → SoundLent st index u → KnownTo u id → v < firstBoolean
+      pub narrow-empty-room : Empty lower upper → Narrows st index memo id v lower upper k to st′ index′ memo′ → Lending st index memo → (u : ℕ) → SoundLent st index u → KnownTo u id → v < firstBoolean
           → EmptyDoneOrNoRoom id v st u k
       narrow-empty-room e o l u s a h = record {
         m = emptied id v lower upper (held st u);

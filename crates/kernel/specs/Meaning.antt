@@ -10,7 +10,7 @@ use lib.IntN.{ℤ}
 use Rattle.diagram.specs.Table.{Table}
 use Rattle.diagram.specs.Reading.{Reading}
 use Rattle.algebra.specs.Answering.{Answers, Answerable}
-use Rattle.algebra.specs.Emptying.{EmptyAnswer}
+use Rattle.algebra.specs.Narrowing.{EmptyAnswer}
 use Rattle.table.specs.Layout.{room, Store}
 use Rattle.table.specs.Lent.{SoundLent}
 use Rattle.table.specs.Held.{held}

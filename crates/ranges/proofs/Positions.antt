@@ -9,8 +9,9 @@ use lib.IntN.{ℤ, pos, negsuc, _+ℤ_, _-ℤ_, sucℤ, predℤ, +ℤ-one, -ℤ-
 use lib.Signed.{leZ, ltZ, leZ-yes}
 use borrow.Author.Tests.{leb-true, leb-false, le-leb, lt-leb, lt-ltb, le-ltb}
 use Rattle.ranges.specs.Line.{Key, Place, Cut, exactly, position, placeAt, top}
-use Rattle.ranges.specs.Bounding.{Keyed, above, below, inside, firstPlace, lastPlace, empty}
-use Rattle.ranges.specs.Comparing.{compares, lowerOf, upperOf, outsideOf}
+use Rattle.ranges.specs.Bounding.{Keyed, above, below, inside}
+use Rattle.ranges.specs.Comparing.{compares}
+use Rattle.ranges.specs.Ending.{firstPlace, lastPlace, empty, lowerOf, upperOf, outsideOf}
 use Rattle.ranges.specs.declared.bounds.Bound.{Bound}
 use Rattle.ranges.specs.declared.bounds.Bound.the-variants.{Open, Includes, Excludes}
 use Rattle.ranges.specs.declared.bounds.Comparison.{Comparison}
