@@ -8,7 +8,7 @@ use native.Mathlib.Omega.{arith}
 use lib.Dec.{ltb}
 use lib.IntN.{pos}
 use borrow.Author.Tests.{ne-eqb, lt-ltb, le-ltb, ltb-false}
-use Rattle.ranges.specs.Line.{placeAt}
+use Rattle.ranges.specs.Ending.{placeAt}
 use Rattle.ranges.proofs.Positions.{placeAt-position}
 use Rattle.diagram.specs.Pieces.{Pieces, last, cut, select, Each, Rising}
 use Rattle.diagram.specs.Table.{firstBoolean, variables, isRange, topOf, Table, Assignment, value}

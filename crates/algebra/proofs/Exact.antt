@@ -23,7 +23,13 @@ use Rattle.diagram.proofs.Diagrams.{width-runs, sound-ordered, tells-value}
 use Rattle.diagram.proofs.Fewest.{is-vertex, IsNode, reached-has-twin, Pair, pair-inj, width-le-partner}
 use Rattle.diagram.proofs.Apart.{same-value-same-id}
 use Rattle.diagram.proofs.Readings.{readings-cover-assignments}
-use Rattle.algebra.specs.Answering.{Answers, Answerable, AtLeast}
+use Rattle.algebra.specs.Answering.{Answers, Answerable}
+
+-- at least the nodes and the edges of another table, and for each of its nodes one at least as wide.
+pub record AtLeast (t s : Table) : Type 0 where
+  pub nodes : length t ≤ length s
+  pub edges : edgeTotal t ≤ edgeTotal s
+  pub widths : (r : ℕ) → 0 < r → r ≤ length t → (q : ℕ) × (0 < q) × (q ≤ length s) × (width t r ≤ width s q)
 
 -- the edges of all nodes, as a sum over refs
 sum-same : (w w′ : ℕ → ℕ) (n : ℕ) → ((r : ℕ) → r ≤ n → w r ≡ w′ r) → sum w (down n) ≡ sum w′ (down n)

@@ -6,10 +6,12 @@ use mathlib.Core.Logic.{_↔_, _⊎_, inl, inr}
 use Prim.Native.Nat.{ℕ, suc, _≤_, _<_, min, max}
 use native.Mathlib.Omega.{arith}
 use lib.Dec.{leb, ltb}
+use lib.ListN.{length}
 use lib.IntN.{ℤ}
+use lib.Signed.{leZ-yes}
 use borrow.Author.Tests.{lt-ltb, le-ltb}
 use Rattle.ids.specs.Id.{FALSE}
-use Rattle.ranges.specs.Line.{Key, position}
+use Rattle.ranges.specs.Line.{Key, lowest, position}
 use Rattle.ranges.specs.Bounding.{Keyed, inside, Empty}
 use Rattle.ranges.specs.Comparing.{compares}
 use Rattle.ranges.specs.Ending.{firstPlace, lastPlace, empty, lowerOf, upperOf}
@@ -21,8 +23,8 @@ use Rattle.diagram.specs.Pieces.{Pieces, select, Each, Rising}
 use Rattle.diagram.specs.Table.{firstBoolean, variables, topOf, Table, Assignment, value}
 use Rattle.diagram.specs.Cofactor.{upd}
 use Rattle.diagram.specs.Sound.{Known, Child, Sound, Continues}
-use Rattle.diagram.specs.Reading.{Reading, positions, says, lowestReading, SameBut, switched}
-use Rattle.diagram.specs.Room.{Fits}
+use Rattle.diagram.specs.Reading.{Reading, positions, says, everywhere, SameBut, switched}
+use Rattle.diagram.specs.Room.{width, edgeTotal, Fits}
 use Rattle.diagram.proofs.Lookup.{value-false}
 use Rattle.diagram.proofs.Readings.{range-top, positions-within, atPlace, place-atPlace, same-but-atPlace, positions-same-but, positions-switched, readings-cover-assignments}
 use Rattle.algebra.specs.Making.{create-node}
@@ -30,7 +32,7 @@ use Rattle.algebra.specs.Conditions.{between, from-range, comparison, fr
 use Rattle.algebra.specs.Conjunction.{and, or}
 use Rattle.algebra.specs.Disjointness.{is-disjoint}
 use Rattle.algebra.specs.Changing.{restrict, narrow, widen}
-use Rattle.algebra.specs.Answering.{Answers, Answerable, AtLeast}
+use Rattle.algebra.specs.Answering.{Answers, Answerable}
 use Rattle.algebra.specs.Narrowing.{AtNearest, SameBefore, Steady, EmptyAnswer}
 use Rattle.algebra.proofs.Made.{unchanged, made-answers}
 use Rattle.algebra.proofs.Making.{created}
@@ -141,10 +143,10 @@ module _ (t : Table) (z : Sound t) where
           ∙ ap (λ (p : ℕ). max (position (firstPlace lower)) (min p (position (lastPlace upper)))) (sym (position-range v hv ρ)))))))
         where
           σ : Reading
-          σ = near lowestReading
+          σ = near (everywhere lowest (leZ-yes tt, leZ-yes tt))
 
           go : (b : Bool) → empty lower upper ≡ b → b ≡ false
-          go true x = absurd (false≢true (sym (empty-exactly lower upper kl ku .0 x (σ .place v) (σ .within v)) ∙ n lowestReading .1 .within))
+          go true x = absurd (false≢true (sym (empty-exactly lower upper kl ku .0 x (σ .place v) (σ .within v)) ∙ n (everywhere lowest (leZ-yes tt, leZ-yes tt)) .1 .within))
           go false x = refl
 
           e : empty lower upper ≡ false
@@ -173,8 +175,9 @@ module _ (t : Table) (z : Sound t) where
 
 -- Theorem 5, exact room. A sound table that continues the given one and holds an id that says the answer has at least as many nodes
 -- and edges as the operation's own result, and for each node of that a node at least as wide;
-pub result-is-smallest : (t : Table) (m : Reading → Bool) (out : Table × ℕ) → Answers t m out → (s : Table) → Sound s → Continues t s → (c : ℕ) → Known s c → ((ρ : Reading) → says s ρ c ≡ m ρ) → AtLeast (out .0) s
-result-is-smallest t m out x s zs g c k h = no-smaller t m out x s zs g c k h
+pub result-is-smallest : (t : Table) (m : Reading → Bool) (out : Table × ℕ) → Answers t m out → (s : Table) → Sound s → Continues t s → (c : ℕ) → Known s c → ((ρ : Reading) → says s ρ c ≡ m ρ)
+    → (length (out .0) ≤ length s) × (edgeTotal (out .0) ≤ edgeTotal s) × ((r : ℕ) → 0 < r → r ≤ length (out .0) → (q : ℕ) × (0 < q) × (q ≤ length s) × (width (out .0) r ≤ width s q))
+result-is-smallest t m out x s zs g c k h = let a = no-smaller t m out x s zs g c k h in (a .nodes, a .edges, a .widths)
 
 -- hence an answer fits a room exactly when the operation's own result does.
 pub fits-exactly : (t : Table) (m : Reading → Bool) (out : Table × ℕ) → Answers t m out → (nodes edges : ℕ) → Answerable nodes edges t m ↔ Fits nodes edges (out .0)

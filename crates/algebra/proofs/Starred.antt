@@ -1,7 +1,7 @@
 -- Theorem 8: C1 to C12, the starred cases, as one table under one statement, by computing. Assumes nothing.
 use mathlib.Core.Path.{refl}
 use mathlib.Core.List.{[]}
-use Rattle.diagram.specs.Table.{at, truth, value}
+use Rattle.diagram.specs.Table.{at, value}
 use Rattle.diagram.specs.Cofactor.{map, edgesOf}
 use Rattle.algebra.specs.Overlay.{below, beside, above, overlay, join, merge}
 use Rattle.algebra.specs.Making.{find, intern, firstSign, settle}
@@ -11,5 +11,5 @@ use Rattle.algebra.specs.Disjointness.{every, disjoint-step, disjoint}
 use Rattle.algebra.specs.Cases.{Hold, starred}
 
 pub starred-cases-hold : Hold [] starred
-unfolding at truth value map edgesOf below beside above overlay join merge find intern firstSign settle upTo between from-range comparison from-bool walk walkBack walkIn opening conj-node conj-step conj or every disjoint-step disjoint starred
+unfolding at value map edgesOf below beside above overlay join merge find intern firstSign settle upTo between from-range comparison from-bool walk walkBack walkIn opening conj-node conj-step conj or every disjoint-step disjoint starred
 starred-cases-hold = (refl, (refl, (refl, (refl, (refl, (refl, (refl, (refl, (refl, (refl, (refl, (refl, (refl, (refl, (refl, (refl, tt))))))))))))))))

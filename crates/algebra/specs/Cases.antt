@@ -3,14 +3,13 @@ use mathlib.Core.Path.{_≡_}
 use mathlib.Core.Bool.{Bool, true, false}
 use mathlib.Core.List.{List, [], _∷_}
 use Prim.Native.Nat.{ℕ}
-use lib.IntN.{ℤ, pos}
+use lib.IntN.{pos}
 use lib.Signed.{leZ-yes}
 use Rattle.ids.specs.Id.{FALSE}
-use Rattle.ranges.specs.Line.{Place}
 use Rattle.ranges.specs.declared.bounds.Bound.the-variants.{Excludes}
 use Rattle.ranges.specs.declared.bounds.Comparison.the-variants.{Equal, NotEqual, LessThan, LessEqual, GreaterEqual}
 use Rattle.diagram.specs.Table.{Table}
-use Rattle.diagram.specs.Reading.{Reading, says}
+use Rattle.diagram.specs.Reading.{says, everywhere}
 use Rattle.algebra.specs.Conditions.{from-range, comparison, from-bool}
 use Rattle.algebra.specs.Conjunction.{and, or}
 use Rattle.algebra.specs.Disjointness.{is-disjoint}
@@ -31,10 +30,6 @@ abbrev pub Hold : Table → List Case → Type 0
 Hold t [] = Unit {0}
 Hold t (gives f id ∷ cs) = let out = f t in (out .1 ≡ id) × Hold (out .0) cs
 Hold t (asks f b ∷ cs) = (f t ≡ b) × Hold t cs
-
--- a true, and x at a place
-abbrev pub xAt : (p : ℤ) → Place p → Reading
-xAt p h = record { place = λ v. p; holds = λ v. true; within = λ v. h }
 
 unfoldable pub starred : List Case
 starred =
@@ -57,6 +52,6 @@ starred =
     ∷ asks (λ t. let out = comparison t x Equal (pos 1) in is-disjoint (out .0) 15 (out .1)) true
     ∷ asks (λ t. let out = comparison t x Equal (pos 2) in is-disjoint (out .0) 15 (out .1)) true
     -- C12* 10 at place 8 with a true: yes; at place 10: no.
-    ∷ asks (λ t. says t (xAt (pos 8) (leZ-yes tt, leZ-yes tt)) 10) true
-    ∷ asks (λ t. says t (xAt (pos 10) (leZ-yes tt, leZ-yes tt)) 10) false
+    ∷ asks (λ t. says t (everywhere (pos 8) (leZ-yes tt, leZ-yes tt)) 10) true
+    ∷ asks (λ t. says t (everywhere (pos 10) (leZ-yes tt, leZ-yes tt)) 10) false
     ∷ []

@@ -12,13 +12,13 @@ use borrow.Author.Tests.{eqb-true, eq-eqb, le-ltb}
 use Rattle.ids.specs.Id.{sign, ref, under}
 use Rattle.ids.proofs.Signs.{ref-under}
 use Rattle.diagram.specs.Pieces.{select}
-use Rattle.diagram.specs.Table.{firstBoolean, variables, topOf, Node, Table, at, Assignment, flipped, signed, truth, value}
+use Rattle.diagram.specs.Table.{firstBoolean, variables, topOf, Node, Table, at, Assignment, flipped, signed, value}
 use Rattle.diagram.specs.Cofactor.{upd, Within}
 use Rattle.diagram.specs.Sound.{Known, Child, Sound}
 use Rattle.diagram.specs.Room.{width}
 use Rattle.diagram.specs.Ordered.{Run, Diagram, holds, holders, Ordered, Tells, terminal, node, Path, here, via, Reached, diagramOf}
 use Rattle.diagram.proofs.Either.{either-true}
-use Rattle.diagram.proofs.Lookup.{at-end, truth-end, signed-under}
+use Rattle.diagram.proofs.Lookup.{truth, value-truth, at-end, truth-end, signed-under}
 use Rattle.diagram.proofs.Piecewise.{reduced-rising}
 use Rattle.diagram.proofs.Facts.{Facts, facts-at}
 use Rattle.diagram.proofs.Cofactors.{upd-same, upd-later, upd-within}
@@ -280,7 +280,7 @@ sound-ordered t z r h l = record {
 
 -- it says as a diagram what it says as a table
 follow-truth : (t : Table) → Sound t → (n : ℕ) (α : Assignment) → Within α → (r : ℕ) → r ≤ length t → variables ≤ n + (at t r) .var → follow n (diagramOf t) α r ≡ truth t α r
-unfolding follow value
+unfolding follow
 follow-truth t z zero α w zero l h = sym (truth-end t α)
 follow-truth t z (suc n) α w zero l h = sym (truth-end t α)
 follow-truth t z zero α w (suc r) l h = absurd (omega (arith, facts-at t z (suc r) (omega arith) l .known))
@@ -292,8 +292,8 @@ follow-truth t z (suc n) α w (suc r) l h =
     let k = child-later (diagramOf t) (sound-ordered t z) (suc r) p (omega arith) l (w (nd .var)) in
     let c = select (nd .edges) p in
     let kc : Later (diagramOf t) (suc (nd .var)) c = rw e at k in
-    rw e (ap (signed c) (follow-truth t z n α w (ref c) (kc .0) (omega (arith, kc .1, var-of t (ref c))))) ∙ sym (f .truth-is α)
+    rw e (ap (signed c) (follow-truth t z n α w (ref c) (kc .0) (omega (arith, kc .1, var-of t (ref c))))) ∙ sym (value-truth t α c) ∙ sym (f .truth-is α)
 
 pub tells-value : (t : Table) → Sound t → (α : Assignment) → Within α → (id : ℕ) → Known t id → tells (diagramOf t) α id ≡ value t α id
-unfolding tells value
-tells-value t z α w id l = ap (signed id) (follow-truth t z variables α w (ref id) l (omega arith))
+unfolding tells
+tells-value t z α w id l = ap (signed id) (follow-truth t z variables α w (ref id) l (omega arith)) ∙ sym (value-truth t α id)

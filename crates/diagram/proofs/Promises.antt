@@ -9,10 +9,11 @@ use native.Mathlib.Omega.{arith}
 use lib.ListN.{length}
 use borrow.Author.Tests.{le-ltb}
 use Rattle.ids.specs.Id.{TRUE, FALSE, sign, ref, flip}
+use Rattle.ranges.specs.Line.{Place, lowest}
 use Rattle.diagram.specs.Pieces.{Pieces, last, cut, count, Reduced}
 use Rattle.diagram.specs.Table.{firstBoolean, isRange, Table, at, Assignment, flipped, value}
 use Rattle.diagram.specs.Sound.{Known, Sound, Continues}
-use Rattle.diagram.specs.Reading.{Reading, positions, says, lowestReading}
+use Rattle.diagram.specs.Reading.{Reading, positions, says, everywhere}
 use Rattle.diagram.specs.Ordered.{Diagram, Ordered, Tells, Reached, edges, diagramOf}
 use Rattle.diagram.proofs.Lookup.{value-flip}
 use Rattle.diagram.proofs.Facts.{Facts, facts-at, origin}
@@ -74,8 +75,8 @@ boolean-node t z r h l b = go ((at t r) .edges) (f .many) (rw (le-ltb ((at t r) 
     go (cut c k (cut d j e)) n x = absurd (omega (arith, x .1, x .3 .0, x .3 .1))
 
 -- Theorem 7, the complement bit. An id is even exactly when it is true at the lowest place of every range variable with every boolean yes.
-lowest-origin : positions lowestReading ≡ origin
-lowest-origin = fun-ext (λ v. go (isRange v))
+lowest-origin : (h : Place lowest) → positions (everywhere lowest h) ≡ origin
+lowest-origin h = fun-ext (λ v. go (isRange v))
   where
     go : (b : Bool) → _≡_ {A = ℕ} (cond b 0 0) 0
     go true = refl
@@ -85,5 +86,5 @@ even-is-true : (s : ℕ) → s < 2 → (s ≡ 0) ↔ (flipped s true ≡ true)
 even-is-true zero h = (λ e. refl, λ e. refl)
 even-is-true (suc s) h = (λ e. absurd (omega arith), λ e. absurd (false≢true e))
 
-pub even-when-true-at-the-lowest : (t : Table) → Sound t → (id : ℕ) → Known t id → (sign id ≡ 0) ↔ (says t lowestReading id ≡ true)
-even-when-true-at-the-lowest t z id k = rw (lowest-origin, value-origin t z id k) (even-is-true (sign id) (omega arith))
+pub even-when-true-at-the-lowest : (t : Table) → Sound t → (id : ℕ) → Known t id → (h : Place lowest) → (sign id ≡ 0) ↔ (says t (everywhere lowest h) id ≡ true)
+even-when-true-at-the-lowest t z id k h = rw (lowest-origin h, value-origin t z id k) (even-is-true (sign id) (omega arith))

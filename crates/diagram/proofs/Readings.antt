@@ -7,7 +7,8 @@ use lib.Dec.{ltb, eqb}
 use lib.IntN.{ℤ, pos}
 use lib.Signed.{leZ-yes}
 use borrow.Author.Tests.{eqb-true, eqb-false, eq-eqb, ne-eqb, lt-ltb, le-ltb}
-use Rattle.ranges.specs.Line.{Place, position, placeAt, top}
+use Rattle.ranges.specs.Line.{Place, position, top}
+use Rattle.ranges.specs.Ending.{placeAt}
 use Rattle.ranges.proofs.Positions.{position-top, place-placeAt, position-placeAt}
 use Rattle.diagram.specs.Table.{firstBoolean, isRange, topOf, Assignment}
 use Rattle.diagram.specs.Cofactor.{upd, Within}

@@ -4,8 +4,7 @@ use mathlib.Core.Bool.{Bool, true, cond}
 use Prim.Native.Nat.{ℕ}
 use lib.Dec.{eqb}
 use lib.IntN.{ℤ}
-use lib.Signed.{leZ-yes}
-use Rattle.ranges.specs.Line.{Place, lowest, position}
+use Rattle.ranges.specs.Line.{Place, position}
 use Rattle.diagram.specs.Table.{isRange, Table, Assignment, value}
 
 -- "32 places and 32 booleans": a place for each range variable and a yes or no for each boolean one, by the variable's number.
@@ -23,9 +22,9 @@ positions ρ v = cond (isRange v) (position (ρ .place v)) (cond (ρ .holds v) 0
 abbrev pub says : Table → Reading → ℕ → Bool
 says t ρ id = value t (positions ρ) id
 
--- The lowest place for every range variable, and yes for every boolean one.
-abbrev pub lowestReading : Reading
-lowestReading = record { place = λ v. lowest; holds = λ v. true; within = λ v. (leZ-yes tt, leZ-yes tt) }
+-- One place for every range variable, and yes for every boolean one.
+abbrev pub everywhere : (p : ℤ) → Place p → Reading
+everywhere p h = record { place = λ v. p; holds = λ v. true; within = λ v. h }
 
 -- Two readings that differ in the place of a range variable alone.
 abbrev pub SameBut : ℕ → Reading → Reading → Type 0

@@ -2,7 +2,7 @@
 -- rests on this file. Assumes nothing.
 use mathlib.Core.Path.{_≡_}
 use mathlib.Core.Bool.{Bool, true, false}
-use Prim.Native.Nat.{ℕ, _≤_}
+use Prim.Native.Nat.{ℕ, _+_, _≤_, _^_}
 use lib.Dec.{ltb}
 use lib.IntN.{ℤ, pos, _+ℤ_, _-ℤ_}
 use lib.Signed.{ltZ}
@@ -14,6 +14,10 @@ use Rattle.ranges.specs.declared.bounds.Comparison.{Comparison}
 use Rattle.ranges.specs.declared.bounds.Comparison.the-variants.{Equal, NotEqual, LessThan, LessEqual, GreaterThan, GreaterEqual}
 use Rattle.ranges.specs.declared.spans.Range.{Range}
 use Rattle.ranges.specs.declared.spans.Compared.{Compared}
+
+-- The place at a position: the way back from `position` (`position-placeAt`, `placeAt-position`).
+abbrev pub placeAt : ℕ → ℤ
+placeAt q = pos q -ℤ pos (2 ^ 32 + 1)
 
 -- The first place of a range, by its lower bound,
 abbrev pub firstPlace : Bound → ℤ

@@ -12,7 +12,7 @@ use lib.Dec.{ltb}
 use lib.ListN.{length}
 use lib.IntN.{ℤ, pos, negsuc}
 use Rattle.diagram.specs.Pieces.{Pieces, last, cut, first, count, Reduced, Each, run}
-use Rattle.diagram.specs.Table.{Node, Table, at, end, topOf}
+use Rattle.diagram.specs.Table.{Node, Table, at, topOf}
 use Rattle.diagram.specs.Sound.{Child, Extends, Sound}
 use Rattle.table.specs.Layout.{varAt, countAt, firstAt, kidAt, cutAt, cutPosition, Store}
 use Rattle.table.specs.Lent.{Stands, Blank, Rules, SameRun, SameRecord, SoundLent}
@@ -21,6 +21,7 @@ use Rattle.table.specs.Checking.{below, Climbs}
 use Rattle.diagram.proofs.Lookup as lookup
 use Rattle.diagram.proofs.Numbered.{run-shift}
 use Rattle.diagram.proofs.Readings.{range-top, bool-top}
+use Rattle.diagram.proofs.Lookup.{end}
 use Rattle.table.proofs.Laws as laws
 use Rattle.table.proofs.CutPositions.{climbs}
 use Rattle.table.proofs.Scan.{table-length}
