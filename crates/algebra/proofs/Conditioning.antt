@@ -8,8 +8,7 @@ use lib.IntN.{ℤ}
 use borrow.Author.Tests.{ltb-true, ltb-false, leb-true, leb-false, eqb-true, eqb-false, lt-leb}
 use Rattle.ids.specs.Id.{flip}
 use Rattle.ranges.specs.Line.{position, top}
-use Rattle.ranges.specs.Bounding.{firstPlace, lastPlace}
-use Rattle.ranges.specs.Comparing.{lowerOf, upperOf, outsideOf}
+use Rattle.ranges.specs.Ending.{firstPlace, lastPlace, lowerOf, upperOf, outsideOf}
 use Rattle.ranges.specs.declared.bounds.Bound.{Bound}
 use Rattle.ranges.specs.declared.bounds.Comparison.{Comparison}
 use Rattle.diagram.specs.Pieces.{Pieces, last, cut, select, Each, Rising}

@@ -9,9 +9,8 @@ use borrow.Author.Tests.{eqb-true, eqb-false}
 use Rattle.ids.specs.Id.{ref, flip}
 use Rattle.diagram.specs.Pieces.{Pieces, last, cut, select, Rising}
 use Rattle.diagram.specs.Table.{variables, topOf, Table, at, Assignment, value}
-use Rattle.diagram.specs.Cofactor.{edgesOf, upd}
+use Rattle.diagram.specs.Cofactor.{edgesOf, upd, Within}
 use Rattle.diagram.specs.Sound.{Known, Child, Sound}
-use Rattle.diagram.specs.Reading.{Within}
 use Rattle.diagram.proofs.Lookup.{value-true, value-false}
 use Rattle.diagram.proofs.Piecewise.{select-left, select-right}
 use Rattle.diagram.proofs.Facts.{facts-at, var-most}

@@ -7,14 +7,14 @@ use Prim.Native.Nat.{ℕ, suc, _≤_, _<_}
 use native.Mathlib.Omega.{arith}
 use lib.Dec.{ltb}
 use lib.IntN.{pos}
-use borrow.Author.Tests.{lt-ltb, le-ltb, ltb-false}
-use Rattle.ranges.specs.Line.{placeAt}
+use borrow.Author.Tests.{ne-eqb, lt-ltb, le-ltb, ltb-false}
+use Rattle.ranges.specs.Ending.{placeAt}
 use Rattle.ranges.proofs.Positions.{placeAt-position}
 use Rattle.diagram.specs.Pieces.{Pieces, last, cut, select, Each, Rising}
 use Rattle.diagram.specs.Table.{firstBoolean, variables, isRange, topOf, Table, Assignment, value}
-use Rattle.diagram.specs.Cofactor.{edgesOf, upd}
+use Rattle.diagram.specs.Cofactor.{edgesOf, upd, Within}
 use Rattle.diagram.specs.Sound.{Known, Child, Sound}
-use Rattle.diagram.specs.Reading.{Reading, positions, says, Within}
+use Rattle.diagram.specs.Reading.{Reading, positions, says, SameBut}
 use Rattle.diagram.proofs.Lookup.{at-end, value-false}
 use Rattle.diagram.proofs.Piecewise.{count-pos, each-select, Two, two-told-apart}
 use Rattle.diagram.proofs.Facts.{value-agree}
@@ -23,7 +23,7 @@ use Rattle.diagram.proofs.Apart.{Apart, distinct-ids-apart}
 use Rattle.diagram.proofs.Readings.{positions-within, reading, place-reading, holds-reading, positions-reading}
 use Rattle.algebra.specs.Changing.{change, emptied}
 use Rattle.algebra.specs.Answering.{Answers}
-use Rattle.algebra.specs.Emptying.{SameBefore, SameAfter, StillChanges, Steady, EmptyAnswer}
+use Rattle.algebra.specs.Narrowing.{SameBefore, Steady, EmptyAnswer}
 use Rattle.algebra.proofs.Made.{made-answers}
 use Rattle.algebra.proofs.Descending.{descend, Before, descend-value, bottom-child, Changes, change-makes-meaning}
 
@@ -59,26 +59,39 @@ module _ (α : Assignment) (v p : ℕ) (β : Assignment) where
       go true = r i
       go false = upd-within β v p q h i
 
+mix-but : (α : Assignment) (v p q : ℕ) (β : Assignment) (i : ℕ) → (i ≡ v → ⊥) → mix α v p β i ≡ mix α v q β i
+mix-but α v p q β i n = rw (ne-eqb i v n)
+
 -- readings as assignments, before and after a range variable v
 positions-before : (v : ℕ) → v < firstBoolean → (ρ σ : Reading) → SameBefore v ρ σ → Before v (positions ρ) (positions σ)
 positions-before v hv ρ σ h i l = let q : i < firstBoolean = omega arith in rw (lt-ltb i firstBoolean q, h i l)
 
-positions-after : (v : ℕ) (σ τ : Reading) → SameAfter v σ τ → (i : ℕ) → suc v ≤ i → positions σ i ≡ positions τ i
-positions-after v σ τ h i l = rw (h .0 i l, h .1 i)
+positions-after : (v : ℕ) (σ τ : Reading) → SameBut v σ τ → (i : ℕ) → suc v ≤ i → positions σ i ≡ positions τ i
+positions-after v σ τ h i l = rw (h .0 i (λ q. omega arith), h .1 i)
+
+same-before : (v : ℕ) (ρ σ τ : Reading) → SameBefore v ρ σ → SameBut v σ τ → SameBefore v ρ τ
+same-before v ρ σ τ a s i l = s .0 i (λ q. omega arith) ∙ a i l
 
 -- the reading of an assignment that is a reading's before v
 reading-before : (v : ℕ) → v < firstBoolean → (ρ : Reading) (β : Assignment) (w : Within β) → Before v (positions ρ) β → SameBefore v ρ (reading β w)
 reading-before v hv ρ β w h i l = let q : i < firstBoolean = omega arith in place-reading β w i ∙ rw (h i l, lt-ltb i firstBoolean q) (placeAt-position (ρ .place i) (ρ .within i))
 
-reading-after : (v : ℕ) → v < firstBoolean → (β γ : Assignment) (w : Within β) (x : Within γ) → ((i : ℕ) → v < i → β i ≡ γ i) → SameAfter v (reading β w) (reading γ x)
-reading-after v hv β γ w x g = (
-  λ i l. place-reading β w i ∙ ap (λ (n : ℕ). cond (isRange i) (placeAt n) (pos 0)) (g i l) ∙ sym (place-reading γ x i),
-  λ i. holds-reading β w i ∙ held i (isRange i) refl ∙ sym (holds-reading γ x i),
+reading-but : (v : ℕ) → v < firstBoolean → (β γ : Assignment) (w : Within β) (x : Within γ) → ((i : ℕ) → (i ≡ v → ⊥) → γ i ≡ β i) → SameBut v (reading β w) (reading γ x)
+reading-but v hv β γ w x g = (
+  λ i n. place-reading γ x i ∙ ap (λ (m : ℕ). cond (isRange i) (placeAt m) (pos 0)) (g i n) ∙ sym (place-reading β w i),
+  λ i. holds-reading γ x i ∙ held i (isRange i) refl ∙ sym (holds-reading β w i),
 )
   where
-    held : (i : ℕ) (b : Bool) → isRange i ≡ b → cond b true (ltb (β i) 1) ≡ cond b true (ltb (γ i) 1)
+    held : (i : ℕ) (b : Bool) → isRange i ≡ b → cond b true (ltb (γ i) 1) ≡ cond b true (ltb (β i) 1)
     held i true e = refl
-    held i false e = ap (λ (n : ℕ). ltb n 1) (g i (omega (arith, ltb-false i firstBoolean e)))
+    held i false e = ap (λ (n : ℕ). ltb n 1) (g i (λ q. omega (arith, ltb-false i firstBoolean e)))
+
+-- two readings, with the variables before v as in ρ, that differ in v alone and under which the id says different things
+abbrev pub Changing : Table → ℕ → Reading → ℕ → Type 0
+Changing t v ρ id = (σ : Reading) × (τ : Reading) × SameBefore v ρ σ × SameBut v σ τ × (says t σ id ≡ says t τ id → ⊥)
+
+pub not-steady : (t : Table) (v : ℕ) (ρ : Reading) (id : ℕ) → Changing t v ρ id → Steady t v ρ id → ⊥
+not-steady t v ρ id c s = c .4 (s (c .0) (c .1) (c .2) (c .3))
 
 module _ (t : Table) (z : Sound t) (v : ℕ) (hv : v < firstBoolean) (id : ℕ) (k : Known t id) where
   abbrev whole : Child t 0 id
@@ -103,21 +116,20 @@ module _ (t : Table) (z : Sound t) (v : ℕ) (hv : v < firstBoolean) (id : ℕ) 
 
   -- no node of v stands there
   steady : (ρ : Reading) (c : ℕ) → Kids t v (standing ρ) (last c) → Steady t v ρ id
-  steady ρ c x σ τ a b s =
+  steady ρ c x σ τ a s =
       sym (says-standing ρ (positions σ) (positions-before v hv ρ σ a)) ∙ x .value-is (positions σ)
       ∙ value-agree t z (suc v) (positions σ) (positions τ) (positions-after v σ τ s) c (x .kids) ∙ sym (x .value-is (positions τ))
-      ∙ says-standing ρ (positions τ) (positions-before v hv ρ τ b)
+      ∙ says-standing ρ (positions τ) (positions-before v hv ρ τ (same-before v ρ σ τ a s))
 
   -- a node of v stands there: two of its children are told apart
-  changing : (ρ : Reading) (c q : ℕ) (e : Pieces ℕ) → Kids t v (standing ρ) (cut c q e) → StillChanges t v ρ id
-  changing ρ c q e x = record {
-    one = reading (mix α v (y .p) β) (inside (y .p) (y .p-top));
-    other = reading (mix α v (y .q) β) (inside (y .q) (y .q-top));
-    before-one = reading-before v hv ρ (mix α v (y .p) β) (inside (y .p) (y .p-top)) (mix-before α v (y .p) β);
-    before-other = reading-before v hv ρ (mix α v (y .q) β) (inside (y .q) (y .q-top)) (mix-before α v (y .q) β);
-    after = reading-after v hv (mix α v (y .p) β) (mix α v (y .q) β) (inside (y .p) (y .p-top)) (inside (y .q) (y .q-top)) (λ i l. mix-later α v (y .p) β i l ∙ sym (mix-later α v (y .q) β i l));
-    apart = λ s. a .apart (sym (at-child (y .p) (y .p-top)) ∙ s ∙ at-child (y .q) (y .q-top));
-  }
+  changing : (ρ : Reading) (c q : ℕ) (e : Pieces ℕ) → Kids t v (standing ρ) (cut c q e) → Changing t v ρ id
+  changing ρ c q e x = (
+    reading (mix α v (y .p) β) (inside (y .p) (y .p-top)),
+    reading (mix α v (y .q) β) (inside (y .q) (y .q-top)),
+    reading-before v hv ρ (mix α v (y .p) β) (inside (y .p) (y .p-top)) (mix-before α v (y .p) β),
+    reading-but v hv (mix α v (y .p) β) (mix α v (y .q) β) (inside (y .p) (y .p-top)) (inside (y .q) (y .q-top)) (mix-but α v (y .q) (y .p) β),
+    λ s. a .apart (sym (at-child (y .p) (y .p-top)) ∙ s ∙ at-child (y .q) (y .q-top)),
+  )
     where
       α : Assignment
       α = positions ρ
@@ -143,17 +155,17 @@ module _ (t : Table) (z : Sound t) (v : ℕ) (hv : v < firstBoolean) (id : ℕ) 
           ∙ ap (λ (i : ℕ). value t (mix α v p β) (select (cut c q e) i)) (mix-at α v p β) ∙ value-agree t z (suc v) (mix α v p β) β (mix-later α v p β) (select (cut c q e) p) (child p)
 
   -- under every reading it is one or the other,
-  pub steady-or-changing : (ρ : Reading) → Steady t v ρ id ⊎ StillChanges t v ρ id
+  pub steady-or-changing : (ρ : Reading) → Steady t v ρ id ⊎ Changing t v ρ id
   steady-or-changing ρ = go (edgesOf t v (standing ρ)) (edges-are-kids t z v (standing ρ) known (stands ρ))
     where
-      go : (e : Pieces ℕ) → Kids t v (standing ρ) e → Steady t v ρ id ⊎ StillChanges t v ρ id
+      go : (e : Pieces ℕ) → Kids t v (standing ρ) e → Steady t v ρ id ⊎ Changing t v ρ id
       go (last c) x = inl (steady ρ c x)
       go (cut c q e) x = inr (changing ρ c q e x)
 
   -- and the answer is as document 01 asks
   said-right : (m : Reading → Bool) → EmptyAnswer t v id m → (ρ : Reading) (e : Pieces ℕ) → Kids t v (standing ρ) e → said ρ e ≡ m ρ
   said-right m h ρ (last c) x = sym (x .value-is (positions ρ)) ∙ says-standing ρ (positions ρ) (λ i l. refl) ∙ sym (h ρ .1 (steady ρ c x))
-  said-right m h ρ (cut c q e) x = value-false t (positions ρ) 1 refl ∙ sym (h ρ .0 (changing ρ c q e x))
+  said-right m h ρ (cut c q e) x = value-false t (positions ρ) 1 refl ∙ sym (h ρ .0 (not-steady t v ρ id (changing ρ c q e x)))
 
   pub emptied-answers : (m : Reading → Bool) → EmptyAnswer t v id m → Answers t m (change variables emptied t v id)
   emptied-answers m h =

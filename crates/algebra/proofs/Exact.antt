@@ -14,16 +14,22 @@ use Rattle.diagram.specs.Table.{Node, Table, at, value}
 use Rattle.diagram.specs.Sound.{Known, Sound, Continues, same}
 use Rattle.diagram.specs.Reading.{Reading, positions, says}
 use Rattle.diagram.specs.Room.{width, edgeTotal, Fits}
-use Rattle.diagram.specs.Ordered.{Ordered, down, sum, diagramOf}
+use Rattle.diagram.specs.Ordered.{Ordered, diagramOf}
 use Rattle.diagram.proofs.Lookup.{at-new, at-old}
 use Rattle.diagram.proofs.Facts.{facts-at}
 use Rattle.diagram.proofs.Continuing.{continues-length, continues-at, continues-value, continues-same}
-use Rattle.diagram.proofs.Counting.{falling-down, mem-down, down-mem, Partner, sum-partners-le, sum-down}
+use Rattle.diagram.proofs.Counting.{down, sum, once-down, mem-down, down-mem, Partner, sum-partners-le, sum-down}
 use Rattle.diagram.proofs.Diagrams.{width-runs, sound-ordered, tells-value}
 use Rattle.diagram.proofs.Fewest.{is-vertex, IsNode, reached-has-twin, Pair, pair-inj, width-le-partner}
 use Rattle.diagram.proofs.Apart.{same-value-same-id}
 use Rattle.diagram.proofs.Readings.{readings-cover-assignments}
-use Rattle.algebra.specs.Answering.{Answers, Answerable, AtLeast}
+use Rattle.algebra.specs.Answering.{Answers, Answerable}
+
+-- at least the nodes and the edges of another table, and for each of its nodes one at least as wide.
+pub record AtLeast (t s : Table) : Type 0 where
+  pub nodes : length t ≤ length s
+  pub edges : edgeTotal t ≤ edgeTotal s
+  pub widths : (r : ℕ) → 0 < r → r ≤ length t → (q : ℕ) × (0 < q) × (q ≤ length s) × (width t r ≤ width s q)
 
 -- the edges of all nodes, as a sum over refs
 sum-same : (w w′ : ℕ → ℕ) (n : ℕ) → ((r : ℕ) → r ≤ n → w r ≡ w′ r) → sum w (down n) ≡ sum w′ (down n)
@@ -96,7 +102,7 @@ module _ (t : Table) (m : Reading → Bool) (out : Table × ℕ) (x : Answers t 
         some = hk;
         inside = k .inside;
         pair = record { of = w .of; to = k .to; of-ref = w .ref-is; to-ref = refl; inside = nx .inside; same = k .same };
-        wide = rw (w .ref-is, width-runs s (ref (k .to)) hk) at (width-le-partner t′ z (diagramOf s) os (w .of) i nx k);
+        wide = rw (w .ref-is, width-runs s (ref (k .to))) at (width-le-partner t′ z (diagramOf s) os (w .of) i nx k);
       }
 
   match : (r : ℕ) → 0 < r → r ≤ length t′ → Match r
@@ -113,7 +119,7 @@ module _ (t : Table) (m : Reading → Bool) (out : Table × ℕ) (x : Answers t 
       record { to = k .to; there = mem-down (length s) (k .to) (k .some) (k .inside); pair = k .pair; lighter = f r k }
 
   weighed : (w w′ : ℕ → ℕ) → ((r : ℕ) (k : Match r) → w r ≤ w′ (k .to)) → sum w (down (length t′)) ≤ sum w′ (down (length s))
-  weighed w w′ f = sum-partners-le w w′ Pairs (pair-inj t′ z (diagramOf s) os) (suc (length t′)) (down (length t′)) (falling-down (length t′)) (down (length s)) (partner w w′ f)
+  weighed w w′ f = sum-partners-le w w′ Pairs (pair-inj t′ z (diagramOf s) os) (down (length t′)) (once-down (length t′)) (down (length s)) (partner w w′ f)
 
   pub no-smaller : AtLeast (out .0) s
   no-smaller = record {
@@ -133,8 +139,8 @@ fits-less nodes edges t s a f = record {
 -- an answer fits a room exactly when the operation's own result does
 pub room-exact : (t : Table) (m : Reading → Bool) (out : Table × ℕ) → Answers t m out → (nodes edges : ℕ) → Answerable nodes edges t m ↔ Fits nodes edges (out .0)
 room-exact t m out x nodes edges = (
-  λ a. fits-less nodes edges (out .0) (a .table) (no-smaller t m out x (a .table) (a .sound) (a .continues) (a .id) (a .known) (a .means)) (a .fits),
-  λ f. record { table = out .0; sound = x .right .sound; continues = x .right .continues; fits = f; id = out .1; known = x .right .known; means = x .right .means },
+  λ a. fits-less nodes edges (out .0) (a .out .0) (no-smaller t m out x (a .out .0) (a .right .sound) (a .right .continues) (a .out .1) (a .right .known) (a .right .means)) (a .fits),
+  λ f. record { out = out; right = x .right; fits = f },
 )
 
 -- and a table that holds the answer already stays as it is

@@ -10,11 +10,11 @@ use Rattle.diagram.specs.Pieces.{select, Rising}
 use Rattle.diagram.specs.Table.{topOf, Node, Table, at, Assignment, value}
 use Rattle.diagram.specs.Sound.{Child, Sound, Continues, same}
 use Rattle.diagram.specs.Reading.{Reading, positions}
-use Rattle.diagram.specs.Ordered.{Path, here, childAt, runsOf, diagramOf}
+use Rattle.diagram.specs.Ordered.{Path, here, diagramOf}
 use Rattle.diagram.proofs.Piecewise.{reduced-rising, select-beyond}
 use Rattle.diagram.proofs.Facts.{facts-at, kid-at}
 use Rattle.diagram.proofs.Continuing.{continues-at}
-use Rattle.diagram.proofs.Runs.{child-runs}
+use Rattle.diagram.proofs.Runs.{childAt, child-runs}
 use Rattle.diagram.proofs.Diagrams.{path-trans, child-path, sound-ordered}
 use Rattle.algebra.specs.Answering.{Answers}
 
@@ -48,7 +48,7 @@ reach-path t z l (go-by {r = suc n} {s = s} p h x) = path-trans (rw e at (child-
     rise : Rising 0 top-n (nd .edges)
     rise = reduced-rising 0 top-n (nd .edges) (facts-at t z (suc n) h l .reduced)
 
-    e : childAt (runsOf (diagramOf t) (suc n)) (min p top-n) ≡ select (nd .edges) p
+    e : childAt ((diagramOf t) .runs (suc n)) (min p top-n) ≡ select (nd .edges) p
     e = child-runs 0 top-n (nd .edges) (min p top-n) rise (omega arith) (omega arith) ∙ sym (select-beyond 0 top-n (nd .edges) p rise)
 
 -- from t: a table that continues it and an id in it, which tests variables from u on and means m

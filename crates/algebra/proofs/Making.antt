@@ -11,10 +11,10 @@ use borrow.Author.Tests.{eqb-true, eq-eqb}
 use Rattle.ids.specs.Id.{sign, ref, under}
 use Rattle.ids.proofs.Signs.{under-inj, ref-under, sign-under}
 use Rattle.diagram.specs.Pieces.{Pieces, last, cut, select, first, Each, Rising, Reduced}
-use Rattle.diagram.specs.Table.{variables, topOf, Node, Table, at, Assignment, flipped, truth, value}
+use Rattle.diagram.specs.Table.{variables, topOf, Node, Table, at, Assignment, flipped, value}
 use Rattle.diagram.specs.Cofactor.{map}
 use Rattle.diagram.specs.Sound.{Child, Extends, Sound, same, more}
-use Rattle.diagram.proofs.Lookup.{at-new, at-old, at-end, truth-new, value-under, value-ref, flipped-flipped}
+use Rattle.diagram.proofs.Lookup.{truth, at-new, at-old, at-end, truth-new, value-under, value-ref, flipped-flipped}
 use Rattle.diagram.proofs.Piecewise.{count-pos}
 use Rattle.diagram.proofs.Facts.{facts-at}
 use Rattle.diagram.proofs.Cofactors.{select-map, reduced-map, each-map, child-under}

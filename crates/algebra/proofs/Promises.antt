@@ -2,35 +2,38 @@
 -- 8 in Starred. Readings, bounds and comparisons are document 01's. Assumes nothing.
 use mathlib.Core.Path.{_≡_, refl, sym, _∙_, ap}
 use mathlib.Core.Bool.{Bool, true, false, cond, _&&_, _||_, and-false, false≢true}
-use mathlib.Core.Logic.{_↔_, _⊎_}
+use mathlib.Core.Logic.{_↔_, _⊎_, inl, inr}
 use Prim.Native.Nat.{ℕ, suc, _≤_, _<_, min, max}
 use native.Mathlib.Omega.{arith}
 use lib.Dec.{leb, ltb}
+use lib.ListN.{length}
 use lib.IntN.{ℤ}
-use borrow.Author.Tests.{lt-ltb, le-ltb, ltb-true, lt-leb, leb-true}
+use lib.Signed.{leZ-yes}
+use borrow.Author.Tests.{lt-ltb, le-ltb}
 use Rattle.ids.specs.Id.{FALSE}
-use Rattle.ranges.specs.Line.{Key, Place, position}
-use Rattle.ranges.specs.Bounding.{Keyed, inside, firstPlace, lastPlace, empty, nearest}
-use Rattle.ranges.specs.Comparing.{compares, lowerOf, upperOf}
+use Rattle.ranges.specs.Line.{Key, lowest, position}
+use Rattle.ranges.specs.Bounding.{Keyed, inside, Empty}
+use Rattle.ranges.specs.Comparing.{compares}
+use Rattle.ranges.specs.Ending.{firstPlace, lastPlace, empty, lowerOf, upperOf}
 use Rattle.ranges.specs.declared.bounds.Bound.{Bound}
 use Rattle.ranges.specs.declared.bounds.Comparison.{Comparison}
-use Rattle.ranges.proofs.Positions.{position-top, place-first, place-last, inside-positions, empty-positions, compares-bounds, keyed-lower, keyed-upper}
-use Rattle.ranges.proofs.Nearest.{first-place-le-last, place-nearest, position-nearest}
+use Rattle.ranges.proofs.Positions.{position-top, place-first, place-last, inside-positions, compares-bounds, keyed-lower, keyed-upper}
+use Rattle.ranges.proofs.Nearest.{nearest, first-place-le-last, place-nearest, nearest-is, position-of-nearest, empty-exactly}
 use Rattle.diagram.specs.Pieces.{Pieces, select, Each, Rising}
 use Rattle.diagram.specs.Table.{firstBoolean, variables, topOf, Table, Assignment, value}
 use Rattle.diagram.specs.Cofactor.{upd}
 use Rattle.diagram.specs.Sound.{Known, Child, Sound, Continues}
-use Rattle.diagram.specs.Reading.{Reading, positions, says, atPlace, switched}
-use Rattle.diagram.specs.Room.{Fits}
+use Rattle.diagram.specs.Reading.{Reading, positions, says, everywhere, SameBut, switched}
+use Rattle.diagram.specs.Room.{width, edgeTotal, Fits}
 use Rattle.diagram.proofs.Lookup.{value-false}
-use Rattle.diagram.proofs.Readings.{range-top, positions-within, positions-atPlace, positions-switched, readings-cover-assignments}
+use Rattle.diagram.proofs.Readings.{range-top, positions-within, atPlace, place-atPlace, same-but-atPlace, positions-same-but, positions-switched, readings-cover-assignments}
 use Rattle.algebra.specs.Making.{create-node}
 use Rattle.algebra.specs.Conditions.{between, from-range, comparison, from-bool}
 use Rattle.algebra.specs.Conjunction.{and, or}
 use Rattle.algebra.specs.Disjointness.{is-disjoint}
 use Rattle.algebra.specs.Changing.{restrict, narrow, widen}
-use Rattle.algebra.specs.Answering.{Answers, Answerable, AtLeast}
-use Rattle.algebra.specs.Emptying.{Steady, StillChanges, EmptyAnswer}
+use Rattle.algebra.specs.Answering.{Answers, Answerable}
+use Rattle.algebra.specs.Narrowing.{AtNearest, SameBefore, Steady, EmptyAnswer}
 use Rattle.algebra.proofs.Made.{unchanged, made-answers}
 use Rattle.algebra.proofs.Making.{created}
 use Rattle.algebra.proofs.Conditioning.{select-between, from-range-made, comparison-made, from-bool-made}
@@ -63,13 +66,29 @@ module _ (v : ℕ) (hv : v < firstBoolean) (lower upper : Bound) (kl : Keyed low
       select-between lo hi (topOf v) (positions ρ v) (positions-within ρ v) ∙ ap (λ (p : ℕ). leb lo p && leb p hi) (position-range v hv ρ)
       ∙ sym (inside-positions lower upper kl ku (ρ .place v) (ρ .within v))
 
-  -- nothing is inside empty bounds
-  empty-outside : empty lower upper ≡ true → (p : ℤ) → Place p → inside lower upper p ≡ false
-  empty-outside e p h = inside-positions lower upper kl ku p h ∙ go (leb lo (position p)) refl
-    where
-      go : (b : Bool) → leb lo (position p) ≡ b → (b && leb (position p) hi) ≡ false
-      go true x = lt-leb (position p) hi (omega (arith, leb-true lo (position p) x, ltb-true hi lo (sym (empty-positions lower upper kl ku) ∙ e)))
-      go false x = refl
+-- Two bounds are empty, or each reading has one with v at the nearest place inside them.
+pub empty-or-nearest : (v : ℕ) (lower upper : Bound) → Keyed lower → Keyed upper → Empty lower upper ⊎ ((ρ : Reading) → (σ : Reading) × AtNearest v lower upper ρ σ)
+empty-or-nearest v lower upper kl ku = go (empty lower upper) refl
+  where
+    go : (b : Bool) → empty lower upper ≡ b → Empty lower upper ⊎ ((ρ : Reading) → (σ : Reading) × AtNearest v lower upper ρ σ)
+    go true e = inl (empty-exactly lower upper kl ku .0 e)
+    go false e = inr (λ ρ.
+        let p = ρ .place v in
+        let q = nearest lower upper p in
+        let h = place-nearest lower upper kl ku p (ρ .within v) in
+        (atPlace ρ v q h, (same-but-atPlace ρ v q h, rw (place-atPlace ρ v q h) (nearest-is lower upper kl ku e p (ρ .within v)))))
+
+-- and what an id says there is one thing: two readings with v at the nearest place have it at the same.
+pub nearest-says-once : (v : ℕ) → v < firstBoolean → (lower upper : Bound) → Keyed lower → Keyed upper → (t : Table) (id : ℕ) (ρ σ τ : Reading)
+    → AtNearest v lower upper ρ σ → AtNearest v lower upper ρ τ → says t σ id ≡ says t τ id
+nearest-says-once v hv lower upper kl ku t id ρ σ τ n m = go (empty lower upper) refl
+  where
+    go : (b : Bool) → empty lower upper ≡ b → says t σ id ≡ says t τ id
+    go true x = absurd (false≢true (sym (empty-exactly lower upper kl ku .0 x (σ .place v) (σ .within v)) ∙ n .1 .within))
+    go false e = ap (λ (α : Assignment). value t α id) (there σ n ∙ sym (there τ m))
+      where
+        there : (π : Reading) → AtNearest v lower upper ρ π → positions π ≡ upd (positions ρ) v (max (position (firstPlace lower)) (min (position (ρ .place v)) (position (lastPlace upper))))
+        there π k = positions-same-but ρ π v hv (k .0) ∙ ap (upd (positions ρ) v) (position-of-nearest lower upper kl ku e (ρ .place v) (π .place v) (ρ .within v) (π .within v) (k .1))
 
 -- Theorem 4. From a sound table each operation makes a sound one that continues it, with an id that says what document 01 asks, and
 -- no added node that the answer does not reach.
@@ -127,21 +146,32 @@ module _ (t : Table) (z : Sound t) where
 
     module _ (v : ℕ) (hv : v < firstBoolean) (lower upper : Bound) (kl : Keyed lower) (ku : Keyed upper) where
       -- Step 8: "the answer at a place is the old answer at the nearest place inside the bounds".
-      pub narrow-answers : empty lower upper ≡ false → Answers t (λ ρ. says t (atPlace ρ v (nearest lower upper (ρ .place v)) (place-nearest lower upper kl ku (ρ .place v) (ρ .within v))) id) (narrow t v lower upper id)
+      pub narrow-answers : (near : Reading → Reading) → ((ρ : Reading) → AtNearest v lower upper ρ (near ρ)) → Answers t (λ ρ. says t (near ρ) id) (narrow t v lower upper id)
       unfolding narrow
-      narrow-answers e =
+      narrow-answers near n =
           rw e (made-answers (narrowed-made v (position (firstPlace lower)) (position (lastPlace upper)) (first-place-le-last lower upper kl ku e) (hi-top v hv lower upper kl ku) t z (omega arith) id k) _
-          (λ ρ. sym (ap (λ (α : Assignment). value t α id) (positions-atPlace ρ v (nearest lower upper (ρ .place v)) (place-nearest lower upper kl ku (ρ .place v) (ρ .within v)) hv
-          ∙ ap (upd (positions ρ) v) (position-nearest lower upper kl ku e (ρ .place v) (ρ .within v) ∙ ap (λ (p : ℕ). max (position (firstPlace lower)) (min p (position (lastPlace upper)))) (sym (position-range v hv ρ)))))))
+          (λ ρ. sym (ap (λ (α : Assignment). value t α id) (positions-same-but ρ (near ρ) v hv (n ρ .0)
+          ∙ ap (upd (positions ρ) v) (position-of-nearest lower upper kl ku e (ρ .place v) ((near ρ) .place v) (ρ .within v) ((near ρ) .within v) (n ρ .1)
+          ∙ ap (λ (p : ℕ). max (position (firstPlace lower)) (min p (position (lastPlace upper)))) (sym (position-range v hv ρ)))))))
+        where
+          σ : Reading
+          σ = near (everywhere lowest (leZ-yes tt, leZ-yes tt))
+
+          go : (b : Bool) → empty lower upper ≡ b → b ≡ false
+          go true x = absurd (false≢true (sym (empty-exactly lower upper kl ku .0 x (σ .place v) (σ .within v)) ∙ n (everywhere lowest (leZ-yes tt, leZ-yes tt)) .1 .within))
+          go false x = refl
+
+          e : empty lower upper ≡ false
+          e = go (empty lower upper) refl
 
       -- "With empty bounds the answer is FALSE wherever, the earlier variables being fixed, the old answer still changes with the
       -- chosen one; elsewhere it is the old answer": every m that is so is what the answer says,
-      pub narrow-empty-answers : empty lower upper ≡ true → (m : Reading → Bool) → EmptyAnswer t v id m → Answers t m (narrow t v lower upper id)
+      pub narrow-empty-answers : Empty lower upper → (m : Reading → Bool) → EmptyAnswer t v id m → Answers t m (narrow t v lower upper id)
       unfolding narrow
-      narrow-empty-answers e m h = rw e (emptied-answers t z v hv id k m h)
+      narrow-empty-answers e m h = rw (empty-exactly lower upper kl ku .1 e) (emptied-answers t z v hv id k m h)
 
-      -- and under every reading the old answer is one or the other.
-      pub still-changes-or-not : (ρ : Reading) → Steady t v ρ id ⊎ StillChanges t v ρ id
+      -- and under every reading the old answer is steady, or two readings show that it still changes.
+      pub still-changes-or-not : (ρ : Reading) → Steady t v ρ id ⊎ ((σ : Reading) × (τ : Reading) × SameBefore v ρ σ × SameBut v σ τ × (says t σ id ≡ says t τ id → ⊥))
       still-changes-or-not = steady-or-changing t z v hv id k
 
       -- Step 9: "old answer and inside the bounds. Empty bounds give FALSE."
@@ -151,14 +181,15 @@ module _ (t : Table) (z : Sound t) where
         where
           go : (b : Bool) → empty lower upper ≡ b → Answers t (λ ρ. says t ρ id && inside lower upper (ρ .place v)) (widen t v lower upper id)
           go true e = rw e (made-answers (unchanged t z 0 FALSE (omega arith, omega arith) (λ α. false) (λ α. value-false t α FALSE refl)) _
-              (λ ρ. rw (empty-outside v hv lower upper kl ku e (ρ .place v) (ρ .within v)) (sym (and-false (says t ρ id)))))
+              (λ ρ. rw (empty-exactly lower upper kl ku .0 e (ρ .place v) (ρ .within v)) (sym (and-false (says t ρ id)))))
           go false e = rw e (made-answers (widened-made v (position (firstPlace lower)) (position (lastPlace upper)) (lo-top v hv lower upper kl ku) (omega arith) t z id k) _
               (λ ρ. ap (λ (b : Bool). says t ρ id && b) (between-inside v hv lower upper kl ku ρ)))
 
 -- Theorem 5, exact room. A sound table that continues the given one and holds an id that says the answer has at least as many nodes
 -- and edges as the operation's own result, and for each node of that a node at least as wide;
-pub result-is-smallest : (t : Table) (m : Reading → Bool) (out : Table × ℕ) → Answers t m out → (s : Table) → Sound s → Continues t s → (c : ℕ) → Known s c → ((ρ : Reading) → says s ρ c ≡ m ρ) → AtLeast (out .0) s
-result-is-smallest t m out x s zs g c k h = no-smaller t m out x s zs g c k h
+pub result-is-smallest : (t : Table) (m : Reading → Bool) (out : Table × ℕ) → Answers t m out → (s : Table) → Sound s → Continues t s → (c : ℕ) → Known s c → ((ρ : Reading) → says s ρ c ≡ m ρ)
+    → (length (out .0) ≤ length s) × (edgeTotal (out .0) ≤ edgeTotal s) × ((r : ℕ) → 0 < r → r ≤ length (out .0) → (q : ℕ) × (0 < q) × (q ≤ length s) × (width (out .0) r ≤ width s q))
+result-is-smallest t m out x s zs g c k h = let a = no-smaller t m out x s zs g c k h in (a .nodes, a .edges, a .widths)
 
 -- hence an answer fits a room exactly when the operation's own result does.
 pub fits-exactly : (t : Table) (m : Reading → Bool) (out : Table × ℕ) → Answers t m out → (nodes edges : ℕ) → Answerable nodes edges t m ↔ Fits nodes edges (out .0)

@@ -9,7 +9,7 @@ use Rattle.diagram.specs.Table.{Table}
 use Rattle.diagram.specs.Sound.{Known, Sound, Continues}
 use Rattle.diagram.specs.Reading.{Reading, says}
 use Rattle.diagram.specs.Ordered.{Path, diagramOf}
-use Rattle.diagram.specs.Room.{width, edgeTotal, Fits}
+use Rattle.diagram.specs.Room.{Fits}
 
 -- From the table t, a table and an id that say m, which says of each reading yes or no: the table is sound and continues t.
 pub record Right (t : Table) (m : Reading → Bool) (out : Table × ℕ) : Type 0 where
@@ -26,16 +26,6 @@ pub record Answers (t : Table) (m : Reading → Bool) (out : Table × ℕ) : Typ
 -- Some sound table that continues t, within a room for nodes, a room for edges and the 64 edges a node, holds the answer m: row 6
 -- is "given exactly when" there is none.
 pub record Answerable (nodes edges : ℕ) (t : Table) (m : Reading → Bool) : Type 0 where
-  pub table : Table
-  pub sound : Sound table
-  pub continues : Continues t table
-  pub fits : Fits nodes edges table
-  pub id : ℕ
-  pub known : Known table id
-  pub means : (ρ : Reading) → says table ρ id ≡ m ρ
-
--- At least the nodes and the edges of another table, and for each of its nodes one at least as wide.
-pub record AtLeast (t s : Table) : Type 0 where
-  pub nodes : length t ≤ length s
-  pub edges : edgeTotal t ≤ edgeTotal s
-  pub widths : (r : ℕ) → 0 < r → r ≤ length t → (q : ℕ) × (0 < q) × (q ≤ length s) × (width t r ≤ width s q)
+  pub out : Table × ℕ
+  pub right : Right t m out
+  pub fits : Fits nodes edges (out .0)

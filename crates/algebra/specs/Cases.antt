@@ -1,16 +1,16 @@
 -- The starred cases, and cases of the order of making. Document 01, "Ids from a fresh table": x is variable 0, a is 32; and step 5. Assumes
 -- nothing.
-use mathlib.Core.Bool.{Bool, true, false, not, _&&_}
+use mathlib.Core.Path.{_≡_}
+use mathlib.Core.Bool.{Bool, true, false}
 use mathlib.Core.List.{List, [], _∷_}
 use Prim.Native.Nat.{ℕ}
-use lib.Dec.{eqb}
 use lib.IntN.{pos}
 use lib.Signed.{leZ-yes}
 use Rattle.ids.specs.Id.{FALSE}
 use Rattle.ranges.specs.declared.bounds.Bound.the-variants.{Open, Includes, Excludes}
 use Rattle.ranges.specs.declared.bounds.Comparison.the-variants.{Equal, NotEqual, LessThan, LessEqual, GreaterEqual}
 use Rattle.diagram.specs.Table.{Table}
-use Rattle.diagram.specs.Reading.{Reading, says, lowestReading, atPlace}
+use Rattle.diagram.specs.Reading.{says, everywhere}
 use Rattle.algebra.specs.Conditions.{from-range, comparison, from-bool}
 use Rattle.algebra.specs.Conjunction.{and, or}
 use Rattle.algebra.specs.Disjointness.{is-disjoint}
@@ -39,27 +39,16 @@ pub data Case : Type 0 where
   gives : (Table → Table × ℕ) → ℕ → Case
   asks : (Table → Bool) → Bool → Case
 
-abbrev same : Bool → Bool → Bool
-same true q = q
-same false q = not q
+-- All cases of a list come out so, one after the other.
+abbrev pub Hold : Table → List Case → Type 0
+Hold t [] = Unit {0}
+Hold t (gives f id ∷ cs) = let out = f t in (out .1 ≡ id) × Hold (out .0) cs
+Hold t (asks f b ∷ cs) = (f t ≡ b) × Hold t cs
 
--- Whether all cases of a list come out so, one after the other.
-unfoldable pub hold : Table → List Case → Bool
-hold t [] = true
-hold t (gives f id ∷ cs) = let out = f t in eqb (out .1) id && hold (out .0) cs
-hold t (asks f q ∷ cs) = same (f t) q && hold t cs
-
--- Whether each of some lists does, each from a fresh table.
-unfoldable pub holdEach : List (List Case) → Bool
-holdEach [] = true
-holdEach (l ∷ ls) = hold [] l && holdEach ls
-
--- a true, and x at a place
-abbrev pub xAt8 : Reading
-xAt8 = atPlace lowestReading x (pos 8) (leZ-yes tt, leZ-yes tt)
-
-abbrev pub xAt10 : Reading
-xAt10 = atPlace lowestReading x (pos 10) (leZ-yes tt, leZ-yes tt)
+-- Each of some lists does, each from a fresh table.
+abbrev pub HoldEach : List (List Case) → Type 0
+HoldEach [] = Unit {0}
+HoldEach (l ∷ ls) = Hold [] l × HoldEach ls
 
 unfoldable pub starred : List Case
 starred =
@@ -84,8 +73,8 @@ starred =
     ∷ gives (λ t. comparison t x Equal (pos 2)) 19
     ∷ asks (λ t. is-disjoint t 15 19) true
     -- C12* 10 at place 8 with a true: yes; at place 10: no.
-    ∷ asks (λ t. says t xAt8 10) true
-    ∷ asks (λ t. says t xAt10 10) false
+    ∷ asks (λ t. says t (everywhere (pos 8) (leZ-yes tt, leZ-yes tt)) 10) true
+    ∷ asks (λ t. says t (everywhere (pos 10) (leZ-yes tt, leZ-yes tt)) 10) false
     ∷ []
 
 -- The order of making. In each of the lists below a call makes a node over two new ones, and the calls after it find these two: in the

@@ -5,7 +5,7 @@ use Prim.Native.Nat.{ℕ, zero, suc}
 use lib.Dec.{ltb, leb}
 use Rattle.ids.specs.Id.{FALSE, ref}
 use Rattle.ranges.specs.Line.{position}
-use Rattle.ranges.specs.Bounding.{firstPlace, lastPlace, empty}
+use Rattle.ranges.specs.Ending.{firstPlace, lastPlace, empty}
 use Rattle.ranges.specs.declared.bounds.Bound.{Bound}
 use Rattle.diagram.specs.Pieces.{Pieces, last, cut, select}
 use Rattle.diagram.specs.Table.{variables, isRange, topOf, Table, at}

@@ -5,8 +5,7 @@ use lib.Dec.{ltb, eqb}
 use lib.IntN.{ℤ}
 use Rattle.ids.specs.Id.{TRUE, FALSE, flip}
 use Rattle.ranges.specs.Line.{position}
-use Rattle.ranges.specs.Bounding.{firstPlace, lastPlace}
-use Rattle.ranges.specs.Comparing.{lowerOf, upperOf, outsideOf}
+use Rattle.ranges.specs.Ending.{firstPlace, lastPlace, lowerOf, upperOf, outsideOf}
 use Rattle.ranges.specs.declared.bounds.Bound.{Bound}
 use Rattle.ranges.specs.declared.bounds.Comparison.{Comparison}
 use Rattle.diagram.specs.Pieces.{Pieces, last, cut}

@@ -6,5 +6,5 @@ pub mod Conjunction
 pub mod Disjointness
 pub mod Changing
 pub mod Answering
-pub mod Emptying
+pub mod Narrowing
 pub mod Cases

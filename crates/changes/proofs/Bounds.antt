@@ -9,8 +9,8 @@ use borrow.Author.Tests.{lt-ltb, le-ltb}
 use Rattle.ids.specs.Id.{FALSE}
 use Rattle.ids.specs.Index.{KnownTo}
 use Rattle.ranges.specs.Line.{position}
-use Rattle.ranges.specs.Bounding.{Keyed, firstPlace, lastPlace, empty}
-use Rattle.ranges.specs.Holding.{Bounded}
+use Rattle.ranges.specs.Bounding.{Keyed}
+use Rattle.ranges.specs.Ending.{firstPlace, lastPlace, empty, Bounded}
 use Rattle.ranges.specs.declared.bounds.Bound.{Bound}
 use Rattle.ranges.specs.declared.bounds.Bound.the-variants.{Open}
 use Rattle.ranges.specs.declared.spans.Range.{Range}

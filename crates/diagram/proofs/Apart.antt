@@ -10,10 +10,10 @@ use Rattle.ids.specs.Id.{sign, ref, under}
 use Rattle.ids.proofs.Signs.{under-inj}
 use Rattle.diagram.specs.Pieces.{Pieces, last, select, count}
 use Rattle.diagram.specs.Table.{variables, topOf, Table, at, Assignment, flipped, value}
-use Rattle.diagram.specs.Cofactor.{map, edgesOf, upd}
+use Rattle.diagram.specs.Cofactor.{map, edgesOf, upd, Within}
 use Rattle.diagram.specs.Sound.{Known, Child, Sound}
-use Rattle.diagram.specs.Reading.{Within}
 use Rattle.diagram.proofs.Piecewise.{differ}
+use Rattle.diagram.proofs.Lookup.{value-truth}
 use Rattle.diagram.proofs.Facts.{facts-at, is-node, is-end, at-inj, origin, truth-origin}
 use Rattle.diagram.proofs.Cofactors.{count-map, map-inj, edges-are-kids, edge-child, value-edge, upd-within}
 
@@ -33,8 +33,7 @@ flipped-sign (suc m) (suc n) b hm hn e = omega arith
 
 -- at the origin an id is true exactly when it is not complemented
 pub value-origin : (t : Table) → Sound t → (id : ℕ) → Known t id → value t origin id ≡ flipped (sign id) true
-unfolding value
-value-origin t z id h = ap (flipped (sign id)) (truth-origin t z (ref id) h)
+value-origin t z id h = value-truth t origin id ∙ ap (flipped (sign id)) (truth-origin t z (ref id) h)
 
 by-sign : (t : Table) → Sound t → (a b : ℕ) → Known t a → Known t b → (sign a ≡ sign b → ⊥) → Apart t a b
 by-sign t z a b ha hb n = record {

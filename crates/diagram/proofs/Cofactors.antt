@@ -10,10 +10,9 @@ use Rattle.ids.specs.Id.{sign, ref, under}
 use Rattle.ids.proofs.Signs.{under-inj, ref-under}
 use Rattle.diagram.specs.Pieces.{Pieces, last, cut, select, first, count, Each, Rising, Reduced}
 use Rattle.diagram.specs.Table.{variables, topOf, Table, at, Assignment, flipped, value}
-use Rattle.diagram.specs.Cofactor.{map, edgesOf, upd}
+use Rattle.diagram.specs.Cofactor.{map, edgesOf, upd, Within}
 use Rattle.diagram.specs.Sound.{Known, Child, Sound, Continues}
-use Rattle.diagram.specs.Reading.{Within}
-use Rattle.diagram.proofs.Lookup.{value-under}
+use Rattle.diagram.proofs.Lookup.{value-truth, value-under}
 use Rattle.diagram.proofs.Piecewise.{count-pos, each-select, reduced-rising}
 use Rattle.diagram.proofs.Facts.{facts-at, is-node, value-agree}
 use Rattle.diagram.proofs.Continuing.{continues-at}
@@ -102,7 +101,6 @@ unfolding edgesOf
 edge-other t v id n = rw (ne-eqb ((at t (ref id)) .var) v n)
 
 pub edges-are-kids : (t : Table) → Sound t → (v id : ℕ) → v < variables → Child t v id → Kids t v id (edgesOf t v id)
-unfolding value
 edges-are-kids t z v id hv k = go (ℕ-discrete ((at t (ref id)) .var) v)
   where
     go : Dec ((at t (ref id)) .var ≡ v) → Kids t v id (edgesOf t v id)
@@ -113,7 +111,7 @@ edges-are-kids t z v id hv k = go (ℕ-discrete ((at t (ref id)) .var) v)
         rw (edge-own t v id y) (record {
           reduced = reduced-map (under s) (under-inj s) 0 (topOf v) e (rw y at (f .reduced));
           kids = each-map (under s) (Child t (suc v)) (Child t (suc v)) (child-under t (suc v) s) e (rw y at (f .kids));
-          value-is = λ α. ap (flipped s) (rw y at (f .truth-is α)) ∙ sym (value-under t α s (select e (α v))) ∙ sym (ap (value t α) (select-map (under s) e (α v)));
+          value-is = λ α. value-truth t α id ∙ ap (flipped s) (rw y at (f .truth-is α)) ∙ sym (value-under t α s (select e (α v))) ∙ sym (ap (value t α) (select-map (under s) e (α v)));
         })
     go (no n) = rw (edge-other t v id n) (record { reduced = omega arith; kids = (k .0, omega arith); value-is = λ α. refl })
 

@@ -8,9 +8,9 @@ use native.Mathlib.Decide.{ℕ-discrete}
 use lib.ListN.{length}
 use Rattle.ids.specs.Id.{sign, ref}
 use Rattle.diagram.specs.Pieces.{Pieces, select, first, count, Each, Reduced}
-use Rattle.diagram.specs.Table.{variables, topOf, Node, Table, at, Assignment, signed, truth, value}
+use Rattle.diagram.specs.Table.{variables, topOf, Node, Table, at, Assignment, signed, value}
 use Rattle.diagram.specs.Sound.{Child, Extends, Sound}
-use Rattle.diagram.proofs.Lookup.{at-new, at-old, at-end, truth-new, truth-old, value-old}
+use Rattle.diagram.proofs.Lookup.{truth, value-truth, at-new, at-old, at-end, truth-new, truth-old, value-old}
 use Rattle.diagram.proofs.Piecewise.{each-select, each-imp, select-low}
 
 -- what a sound table t says of its ref r, whose node is nd
@@ -96,7 +96,7 @@ at-inj (nd ∷ t) z r s hr hs e = go (ℕ-discrete r (suc (length t))) (ℕ-disc
 
 -- the truth of a ref depends on its own variable and later ones only
 pub truth-agree : (t : Table) → Sound t → (u : ℕ) (α β : Assignment) → ((w : ℕ) → u ≤ w → α w ≡ β w) → (r : ℕ) → r ≤ length t → u ≤ (at t r) .var → truth t α r ≡ truth t β r
-unfolding truth value
+unfolding truth
 truth-agree [] z u α β h r hr hu = refl
 truth-agree (nd ∷ t) z u α β h r hr hu = go (ℕ-discrete r (suc (length t))) (truth-agree t (z .1) u α β h)
   where
@@ -112,21 +112,20 @@ truth-agree (nd ∷ t) z u α β h r hr hu = go (ℕ-discrete r (suc (length t))
     go : Dec (r ≡ suc (length t)) → ((r : ℕ) → r ≤ length t → u ≤ (at t r) .var → truth t α r ≡ truth t β r) → truth (nd ∷ t) α r ≡ truth (nd ∷ t) β r
     go (yes x) rec =
         let l : u ≤ v = rw (x, at-new nd t) at hu in
-        rw (x, truth-new nd t α, truth-new nd t β, h v l) (ap (signed c) (rec (ref c) (k .0) (omega (arith, k .1))))
+        rw (x, truth-new nd t α, truth-new nd t β, h v l) (value-truth t α c ∙ ap (signed c) (rec (ref c) (k .0) (omega (arith, k .1))) ∙ sym (value-truth t β c))
     go (no x) rec =
         let l : r ≤ length t = omega arith in
         rw (truth-old nd t α r l, truth-old nd t β r l) (rec r l (rw (at-old nd t r l) at hu))
 
 pub value-agree : (t : Table) → Sound t → (u : ℕ) (α β : Assignment) → ((w : ℕ) → u ≤ w → α w ≡ β w) → (id : ℕ) → Child t u id → value t α id ≡ value t β id
-unfolding value
-value-agree t z u α β h id k = ap (signed id) (truth-agree t z u α β h (ref id) (k .0) (k .1))
+value-agree t z u α β h id k = value-truth t α id ∙ ap (signed id) (truth-agree t z u α β h (ref id) (k .0) (k .1)) ∙ sym (value-truth t β id)
 
 -- with every variable at position 0 each ref is true
 abbrev pub origin : Assignment
 origin v = 0
 
 pub truth-origin : (t : Table) → Sound t → (r : ℕ) → r ≤ length t → truth t origin r ≡ true
-unfolding truth value
+unfolding truth
 truth-origin [] z r hr = refl
 truth-origin (nd ∷ t) z r hr = go (ℕ-discrete r (suc (length t))) (truth-origin t (z .1))
   where
@@ -137,7 +136,7 @@ truth-origin (nd ∷ t) z r hr = go (ℕ-discrete r (suc (length t))) (truth-ori
     k = each-select (Child t (suc (nd .var))) (nd .edges) (z .0 .kids) 0
 
     go : Dec (r ≡ suc (length t)) → ((r : ℕ) → r ≤ length t → truth t origin r ≡ true) → truth (nd ∷ t) origin r ≡ true
-    go (yes x) rec = rw (x, truth-new nd t origin, s, z .0 .plain) (rec (ref (first (nd .edges))) (rw s at (k .0)))
+    go (yes x) rec = rw (x, truth-new nd t origin, s, value-truth t origin (first (nd .edges)), z .0 .plain) (rec (ref (first (nd .edges))) (rw s at (k .0)))
     go (no x) rec =
         let l : r ≤ length t = omega arith in
         rw (truth-old nd t origin r l) (rec r l)

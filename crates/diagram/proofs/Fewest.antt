@@ -2,7 +2,7 @@
 -- the second reaches, with as many edges or more, and no two have the same partner. Assumes nothing.
 use mathlib.Core.Path.{_≡_, refl, sym, _∙_, ap}
 use mathlib.Core.Bool.{true, not}
-use mathlib.Core.List.{List·Memᴰ}
+use mathlib.Core.List.{List, List·Memᴰ}
 use Prim.Native.Nat.{ℕ, zero, suc, _+_, _≤_, _<_}
 use native.Mathlib.Omega.{arith}
 use native.Mathlib.Decide.{ℕ-discrete, decLt}
@@ -11,19 +11,18 @@ use Rattle.ids.specs.Id.{sign, ref, flip, under}
 use Rattle.ids.proofs.Signs.{ref-under, ref-flip}
 use Rattle.diagram.specs.Pieces.{Pieces, select, count}
 use Rattle.diagram.specs.Table.{variables, topOf, Node, Table, at, Assignment, value}
-use Rattle.diagram.specs.Cofactor.{edgesOf, upd}
+use Rattle.diagram.specs.Cofactor.{edgesOf, upd, Within}
 use Rattle.diagram.specs.Sound.{Known, Child, Sound}
-use Rattle.diagram.specs.Reading.{Within}
 use Rattle.diagram.specs.Room.{width}
-use Rattle.diagram.specs.Ordered.{Run, Diagram, holds, childAt, varOf, runsOf, Later, Ordered, tells, Path, here, via, down, reached, nodeCount, edgeCount, diagramOf}
+use Rattle.diagram.specs.Ordered.{Run, Diagram, holds, Ordered, Path, here, via, Reached, edges, diagramOf}
 use Rattle.diagram.proofs.Lookup.{value-flip}
 use Rattle.diagram.proofs.Piecewise.{reduced-rising, two-told-apart}
 use Rattle.diagram.proofs.Facts.{facts-at, value-agree}
 use Rattle.diagram.proofs.Cofactors.{edges-are-kids, edge-child, value-edge, select-own, count-own, upd-later, upd-within}
 use Rattle.diagram.proofs.Apart.{same-value-same-id}
-use Rattle.diagram.proofs.Counting.{falling-filter, falling-down, Partner, sum-partners-le, sum-one}
-use Rattle.diagram.proofs.Runs.{Piece, run-piece, no-fewer}
-use Rattle.diagram.proofs.Diagrams.{path-trans, reached-path, path-reached, held-at, child-run, kid, kid-later, kid-path, tells-agree, tells-under, tells-kid, width-runs, sound-ordered}
+use Rattle.diagram.proofs.Counting.{Partner, sum-partners-le, sum-one, sum-edges}
+use Rattle.diagram.proofs.Runs.{childAt, Piece, run-piece, no-fewer}
+use Rattle.diagram.proofs.Diagrams.{varOf, Later, tells, path-trans, path-inside, held-at, child-run, kid, kid-later, kid-path, tells-agree, tells-under, tells-kid, width-runs, sound-ordered}
 
 -- a ref with a variable of the order is a node's
 pub is-vertex : (d : Diagram) (r : ℕ) → varOf d r < variables → 0 < r
@@ -124,7 +123,7 @@ module _ (t : Table) (z : Sound t) (d : Diagram) (o : Ordered d) where
 
   pub reached-has-twin : {r s : ℕ} → Path (diagramOf t) r s → (a c : ℕ) → ref a ≡ r → 0 < s → Known t a → ref c ≤ d .size → Same a c → Twin c s
   reached-has-twin (here {r = r}) a c q hs la lc i = record { of = a; ref-is = q; partner = settled a c (record { some = omega arith; inside = la }) lc i }
-  reached-has-twin (via {n = n} {s = s} x m y) a c q hs la lc i = down-one (reached-has-twin y (select (e a na) p) (kid d o (b .to) p) ref-kid hs (child a na p .0) (kid-later d o (b .to) p hb (b .inside) tb .0)
+  reached-has-twin (via {r = r} {s = s} x hr m y) a c q hs la lc i = down-one (reached-has-twin y (select (e a na) p) (kid d o (b .to) p) ref-kid hs (child a na p .0) (kid-later d o (b .to) p hb (b .inside) tb .0)
       (kid-same a na (b .to) p hb (b .inside) (b .vars) tp (b .same)))
     where
       na : IsNode a
@@ -137,13 +136,13 @@ module _ (t : Table) (z : Sound t) (d : Diagram) (o : Ordered d) where
       hb = is-vertex d (ref (b .to)) (omega (arith, b .vars, var-known a na))
 
       nd : Node
-      nd = at t (suc n)
+      nd = at t r
 
       var-is : var a ≡ nd .var
       var-is = ap (λ (r : ℕ). (at t r) .var) q
 
       piece : Piece 0 (topOf (nd .var)) (nd .edges) x
-      piece = run-piece 0 (topOf (nd .var)) (nd .edges) (reduced-rising 0 (topOf (nd .var)) (nd .edges) (facts-at t z (suc n) (omega arith) (omega arith) .reduced)) x m
+      piece = run-piece 0 (topOf (nd .var)) (nd .edges) (reduced-rising 0 (topOf (nd .var)) (nd .edges) (facts-at t z r hr (omega arith) .reduced)) x m
 
       p : ℕ
       p = x .from
@@ -190,42 +189,40 @@ module _ (t : Table) (z : Sound t) (d : Diagram) (o : Ordered d) where
           )
 
   -- a node has no more edges than its partner
-  pub width-le-partner : (a c : ℕ) → IsNode a → (y : Settled a c) → width t (ref a) ≤ length (runsOf d (ref (y .to)))
+  pub width-le-partner : (a c : ℕ) → IsNode a → (y : Settled a c) → width t (ref a) ≤ length (d .runs (ref (y .to)))
   width-le-partner a c na y = rw (count-own t (var a) a refl) at
-      (no-fewer 0 (topOf (var a)) (e a na) (edges-are-kids t z (var a) a (var-known a na) (own a na) .reduced) (runsOf d (ref (y .to))) (λ p h l. held-at d o (ref (y .to)) p hy (y .inside) (rw (y .vars) l)) one)
+      (no-fewer 0 (topOf (var a)) (e a na) (edges-are-kids t z (var a) a (var-known a na) (own a na) .reduced) (d .runs (ref (y .to))) (λ p h l. held-at d o (ref (y .to)) p hy (y .inside) (rw (y .vars) l)) one)
     where
       hy : 0 < ref (y .to)
       hy = is-vertex d (ref (y .to)) (omega (arith, y .vars, var-known a na))
 
-      one : (x : Run) → List·Memᴰ x (runsOf d (ref (y .to))) → (p q : ℕ) → holds x p ≡ true → holds x q ≡ true → 0 ≤ p → p ≤ topOf (var a) → 0 ≤ q → q ≤ topOf (var a) → select (e a na) p ≡ select (e a na) q
+      one : (x : Run) → List·Memᴰ x (d .runs (ref (y .to))) → (p q : ℕ) → holds x p ≡ true → holds x q ≡ true → 0 ≤ p → p ≤ topOf (var a) → 0 ≤ q → q ≤ topOf (var a) → select (e a na) p ≡ select (e a na) q
       one x m p q xp xq _ lp _ lq =
           let u = sign (y .to) in
-          let g : childAt (runsOf d (ref (y .to))) p ≡ childAt (runsOf d (ref (y .to))) q
+          let g : childAt (d .runs (ref (y .to))) p ≡ childAt (d .runs (ref (y .to))) q
           = child-run d o (ref (y .to)) p hy (y .inside) (rw (y .vars) lp) x m xp ∙ sym (child-run d o (ref (y .to)) q hy (y .inside) (rw (y .vars) lq) x m xq) in
           same-value-same-id t z (select (e a na) p) (select (e a na) q) (child a na p .0) (child a na q .0)
           (λ α w. kid-same a na (y .to) p hy (y .inside) (y .vars) lp (y .same) α w ∙ ap (λ (n : ℕ). tells d α (under u n)) g ∙ sym (kid-same a na (y .to) q hy (y .inside) (y .vars) lq (y .same) α w))
 
-  partner : (a c s : ℕ) → Known t a → ref c ≤ d .size → Same a c → List·Memᴰ s (reached (diagramOf t) a)
-      → (w w′ : ℕ → ℕ) → ((x : ℕ) (k : Settled x c) → IsNode x → w (ref x) ≤ w′ (ref (k .to))) → Partner w w′ Pair (reached d c) s
-  partner a c s la lc i m w w′ h =
-      let j = reached-path (diagramOf t) (sound-ordered t z) a s m in
-      let x = reached-has-twin (j .2) a c refl (j .0) la lc i in
-      let k = x .partner in
-      let nx : IsNode (x .of) = record { some = omega (arith, x .ref-is, j .0); inside = omega (arith, x .ref-is, j .1) } in
-      let hk = is-vertex d (ref (k .to)) (omega (arith, k .vars, var-known (x .of) nx)) in
-      record {
-        to = ref (k .to);
-        there = path-reached d o c (ref (k .to)) lc hk (k .inside) (k .path);
-        pair = record { of = x .of; to = k .to; of-ref = x .ref-is; to-ref = refl; inside = nx .inside; same = k .same };
-        lighter = rw (x .ref-is) at (h (x .of) k nx);
-      }
+  module _ (a c : ℕ) (la : Known t a) (lc : ref c ≤ d .size) (i : Same a c) (rs ss : List ℕ) (ra : Reached (diagramOf t) a rs) (rc : Reached d c ss) where
+    partner : (s : ℕ) → List·Memᴰ s rs → (w w′ : ℕ → ℕ) → ((x : ℕ) (k : Settled x c) → IsNode x → w (ref x) ≤ w′ (ref (k .to))) → Partner w w′ Pair ss s
+    partner s m w w′ h =
+        let j = ra .each s .0 m in
+        let x = reached-has-twin (j .1) a c refl (j .0) la lc i in
+        let k = x .partner in
+        let nx : IsNode (x .of) = record { some = omega (arith, x .ref-is, j .0); inside = omega (arith, x .ref-is, path-inside (diagramOf t) (sound-ordered t z) (j .1) la) } in
+        let hk = is-vertex d (ref (k .to)) (omega (arith, k .vars, var-known (x .of) nx)) in
+        record {
+          to = ref (k .to);
+          there = rc .each (ref (k .to)) .1 (hk, k .path);
+          pair = record { of = x .of; to = k .to; of-ref = x .ref-is; to-ref = refl; inside = nx .inside; same = k .same };
+          lighter = rw (x .ref-is) at (h (x .of) k nx);
+        }
 
-  pub fewest : (a c : ℕ) → Known t a → ref c ≤ d .size → Same a c → (nodeCount (diagramOf t) a ≤ nodeCount d c) × (edgeCount (diagramOf t) a ≤ edgeCount d c)
-  unfolding reached
-  fewest a c la lc i =
-      let f = falling-filter _ (suc (length t)) (down (length t)) (falling-down (length t)) in (
-        rw (← (sum-one (reached (diagramOf t) a)), ← (sum-one (reached d c)))
-            (sum-partners-le (λ x. 1) (λ x. 1) Pair pair-inj (suc (length t)) (reached (diagramOf t) a) f (reached d c) (λ s m. partner a c s la lc i m (λ x. 1) (λ x. 1) (λ x k n. omega arith))),
-        sum-partners-le (λ r. length (runsOf (diagramOf t) r)) (λ r. length (runsOf d r)) Pair pair-inj (suc (length t)) (reached (diagramOf t) a) f (reached d c)
-            (λ s m. partner a c s la lc i m (λ r. length (runsOf (diagramOf t) r)) (λ r. length (runsOf d r)) (λ x k n. rw (width-runs t (ref x) (n .some)) (width-le-partner x c n k))),
-      )
+    pub fewest : (length rs ≤ length ss) × (edges (diagramOf t) rs ≤ edges d ss)
+    fewest = (
+      rw (sum-one rs, sum-one ss) at (sum-partners-le (λ x. 1) (λ x. 1) Pair pair-inj rs (ra .once) ss (λ s m. partner s m (λ x. 1) (λ x. 1) (λ x k n. omega arith))),
+      rw (sum-edges (diagramOf t) rs, sum-edges d ss) at
+          (sum-partners-le (λ r. length ((diagramOf t) .runs r)) (λ r. length (d .runs r)) Pair pair-inj rs (ra .once) ss
+          (λ s m. partner s m (λ r. length ((diagramOf t) .runs r)) (λ r. length (d .runs r)) (λ x k n. rw (width-runs t (ref x)) (width-le-partner x c n k)))),
+    )

@@ -6,12 +6,13 @@ use native.Mathlib.Omega.{arith}
 use lib.Dec.{ltb, eqb}
 use lib.IntN.{ℤ, pos}
 use lib.Signed.{leZ-yes}
-use borrow.Author.Tests.{eqb-true, lt-ltb, le-ltb}
-use Rattle.ranges.specs.Line.{Place, position, placeAt, top}
+use borrow.Author.Tests.{eqb-true, eqb-false, eq-eqb, ne-eqb, lt-ltb, le-ltb}
+use Rattle.ranges.specs.Line.{Place, position, top}
+use Rattle.ranges.specs.Ending.{placeAt}
 use Rattle.ranges.proofs.Positions.{position-top, place-placeAt, position-placeAt}
 use Rattle.diagram.specs.Table.{firstBoolean, isRange, topOf, Assignment}
-use Rattle.diagram.specs.Cofactor.{upd}
-use Rattle.diagram.specs.Reading.{Reading, positions, atPlace, switched, Within}
+use Rattle.diagram.specs.Cofactor.{upd, Within}
+use Rattle.diagram.specs.Reading.{Reading, positions, SameBut, switched}
 
 -- the tops of the two kinds of variables
 pub range-top : (v : ℕ) → v < firstBoolean → topOf v ≡ top
@@ -66,14 +67,28 @@ positions-reading α w = fun-ext (λ v. go v (isRange v) (w v))
 pub readings-cover-assignments : (P : Assignment → Type 0) → ((ρ : Reading) → P (positions ρ)) → (α : Assignment) → Within α → P α
 readings-cover-assignments P h α w = rw (positions-reading α w) at (h (reading α w))
 
--- a changed reading is a changed assignment
-pub positions-atPlace : (ρ : Reading) (v : ℕ) (p : ℤ) (ok : Place p) → v < firstBoolean → positions (atPlace ρ v p ok) ≡ upd (positions ρ) v (position p)
-positions-atPlace ρ v p ok h = fun-ext (λ w. go w (eqb w v) refl)
+-- the same reading with a range variable at another place
+abbrev pub atPlace : Reading → ℕ → (p : ℤ) → Place p → Reading
+atPlace ρ v p ok = record { place = λ w. cond (eqb w v) p (ρ .place w); holds = ρ .holds; within = λ w. placed (eqb w v) w }
   where
-    go : (w : ℕ) (b : Bool) → eqb w v ≡ b
-        → cond (isRange w) (position (cond b p (ρ .place w))) (cond (ρ .holds w) 0 1) ≡ cond b (position p) (positions ρ w)
-    go w true e = let q : w < firstBoolean = omega (arith, eqb-true w v e) in rw (lt-ltb w firstBoolean q)
-    go w false e = refl
+    placed : (b : Bool) (w : ℕ) → Place (cond b p (ρ .place w))
+    placed true w = ok
+    placed false w = ρ .within w
+
+module _ (ρ : Reading) (v : ℕ) (p : ℤ) (ok : Place p) where
+  pub place-atPlace : (atPlace ρ v p ok) .place v ≡ p
+  place-atPlace = rw (eq-eqb v v refl)
+
+  pub same-but-atPlace : SameBut v ρ (atPlace ρ v p ok)
+  same-but-atPlace = (λ w n. rw (ne-eqb w v n), λ w. refl)
+
+-- a changed reading is a changed assignment
+pub positions-same-but : (ρ σ : Reading) (v : ℕ) → v < firstBoolean → SameBut v ρ σ → positions σ ≡ upd (positions ρ) v (position (σ .place v))
+positions-same-but ρ σ v h x = fun-ext (λ w. go w (eqb w v) refl)
+  where
+    go : (w : ℕ) (b : Bool) → eqb w v ≡ b → positions σ w ≡ cond b (position (σ .place v)) (positions ρ w)
+    go w true e = let q : w ≡ v = eqb-true w v e in rw (q, lt-ltb v firstBoolean h)
+    go w false e = rw (x .0 w (eqb-false w v e), x .1 w)
 
 pub positions-switched : (ρ : Reading) (v : ℕ) (b : Bool) → firstBoolean ≤ v → positions (switched ρ v b) ≡ upd (positions ρ) v (cond b 0 1)
 positions-switched ρ v b h = fun-ext (λ w. go w (eqb w v) refl)

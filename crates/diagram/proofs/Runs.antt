@@ -8,7 +8,7 @@ use lib.Dec.{leb, ltb}
 use lib.ListN.{length}
 use borrow.Author.Tests.{leb-true, le-leb, lt-leb, ltb-true, ltb-false}
 use Rattle.diagram.specs.Pieces.{Pieces, last, cut, select, count, Each, Rising, Reduced}
-use Rattle.diagram.specs.Ordered.{Run, holds, holders, childAt, runs}
+use Rattle.diagram.specs.Ordered.{Run, holds, holders, runs}
 use Rattle.diagram.proofs.Piecewise.{select-left, select-right, after-cut}
 use Rattle.diagram.proofs.Counting.{remove, length-remove, mem-remove, remove-mem}
 
@@ -24,6 +24,11 @@ below-holds x p h = rw (lt-leb (x .from) p h)
 
 above-holds : (x : Run) (p : ℕ) → x .from ≤ p → x .upto < p → holds x p ≡ false
 above-holds x p h l = rw (le-leb (x .from) p h, lt-leb p (x .upto) l)
+
+-- the child at a position: that of the run that holds it
+abbrev pub childAt : List Run → ℕ → ℕ
+childAt [] p = 0
+childAt (x ∷ xs) p = cond (holds x p) (x .child) (childAt xs p)
 
 -- a run of a list that holds a position
 pub record Held (xs : List Run) (p : ℕ) : Type 0 where

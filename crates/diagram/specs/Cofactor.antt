@@ -1,10 +1,10 @@
 -- The children of an id at a variable: what every operation goes down by. Assumes nothing.
 use mathlib.Core.Bool.{cond}
-use Prim.Native.Nat.{ℕ}
+use Prim.Native.Nat.{ℕ, _≤_}
 use lib.Dec.{eqb}
 use Rattle.ids.specs.Id.{sign, ref, under}
 use Rattle.diagram.specs.Pieces.{Pieces, last, cut}
-use Rattle.diagram.specs.Table.{Table, at, Assignment}
+use Rattle.diagram.specs.Table.{topOf, Table, at, Assignment}
 
 unfoldable pub map : {A B : Type 0} → (A → B) → Pieces A → Pieces B
 map f (last a) = last (f a)
@@ -20,3 +20,7 @@ edgesOf t v id =
 -- An assignment with a variable at another position.
 abbrev pub upd : Assignment → ℕ → ℕ → Assignment
 upd α v p = λ w. cond (eqb w v) p (α w)
+
+-- An assignment within the positions of each variable.
+abbrev pub Within : Assignment → Type 0
+Within α = (v : ℕ) → α v ≤ topOf v

@@ -1,14 +1,15 @@
 -- Any ordered diagram, what it says, what it reaches, and how much that is. Document 01, "An ordered diagram in demand 3". It is
 -- written apart from tables: nodes in any order, edges in any order, none of the rules of a sound table. Assumes nothing.
 use mathlib.Core.Path.{_≡_}
-use mathlib.Core.Bool.{Bool, true, false, cond, _&&_, _||_}
+use mathlib.Core.Bool.{Bool, true, cond, _&&_}
 use mathlib.Core.List.{List, [], _∷_, List·Memᴰ}
-use Prim.Native.Nat.{ℕ, zero, suc, _+_, _-_, _≤_, _<_}
-use lib.Dec.{leb, eqb}
+use mathlib.Core.Logic.{_↔_}
+use Prim.Native.Nat.{ℕ, suc, _+_, _-_, _≤_, _<_}
+use lib.Dec.{leb}
 use lib.ListN.{length}
 use Rattle.ids.specs.Id.{ref}
 use Rattle.diagram.specs.Pieces.{Pieces, last, cut}
-use Rattle.diagram.specs.Table.{firstBoolean, variables, topOf, Node, Table, at, Assignment, signed}
+use Rattle.diagram.specs.Table.{firstBoolean, variables, topOf, Table, at, Assignment, signed}
 
 -- "Each range edge one unbroken run": its first and last position, and the id that it leads to.
 pub record Run : Type 0 where
@@ -16,15 +17,12 @@ pub record Run : Type 0 where
   pub upto : ℕ
   pub child : ℕ
 
-pub record Vertex : Type 0 where
-  pub var : ℕ
-  pub runs : List Run
-
--- "Any finite one": its nodes have the numbers 0 to below the size. Node n has id (n+1)·2, and "complement marks anywhere" are
--- lowest bits, as in a table.
+-- "Any finite one": the variable and the edges of each node, by its ref, 1 to the size. Ids are as in a table: the node with ref r has
+-- id 2·r, ref 0 is the terminal, and "complement marks anywhere" are lowest bits.
 pub record Diagram : Type 0 where
   pub size : ℕ
-  pub node : ℕ → Vertex
+  pub var : ℕ → ℕ
+  pub runs : ℕ → List Run
 
 abbrev pub holds : Run → ℕ → Bool
 holds x p = leb (x .from) p && leb p (x .upto)
@@ -34,93 +32,49 @@ abbrev pub holders : List Run → ℕ → ℕ
 holders [] p = 0
 holders (x ∷ xs) p = cond (holds x p) (suc (holders xs p)) (holders xs p)
 
--- The child at a position: that of the run that holds it.
-abbrev pub childAt : List Run → ℕ → ℕ
-childAt [] p = 0
-childAt (x ∷ xs) p = cond (holds x p) (x .child) (childAt xs p)
-
--- The variable of a ref; the terminal's is later than each.
-abbrev pub varOf : Diagram → ℕ → ℕ
-varOf d zero = variables
-varOf d (suc n) = (d .node n) .var
-
-abbrev pub runsOf : Diagram → ℕ → List Run
-runsOf d zero = []
-runsOf d (suc n) = (d .node n) .runs
-
--- An id of the diagram whose variable is u or later.
-abbrev pub Later : Diagram → ℕ → ℕ → Type 0
-Later d u id = (ref id ≤ d .size) × (u ≤ varOf d (ref id))
-
-pub record OrderedAt (d : Diagram) (nd : Vertex) : Type 0 where
-  pub known : nd .var < variables
+-- The rules for the node with ref r.
+pub record OrderedAt (d : Diagram) (r : ℕ) : Type 0 where
+  pub known : d .var r < variables
+  pub closed : (x : Run) → List·Memᴰ x (d .runs r) → ref (x .child) ≤ d .size
   -- "variables strictly rising on each path"
-  pub later : (x : Run) → List·Memᴰ x (nd .runs) → Later d (suc (nd .var)) (x .child)
+  pub later : (x : Run) → List·Memᴰ x (d .runs r) → 0 < ref (x .child) → d .var r < d .var (ref (x .child))
   -- "the runs covering every place once", so "nodes of one edge or more"
-  pub cover : (p : ℕ) → p ≤ topOf (nd .var) → holders (nd .runs) p ≡ 1
+  pub cover : (p : ℕ) → p ≤ topOf (d .var r) → holders (d .runs r) p ≡ 1
   -- "a boolean node with its two edges"
-  pub pair : firstBoolean ≤ nd .var → length (nd .runs) ≡ 2
+  pub pair : firstBoolean ≤ d .var r → length (d .runs r) ≡ 2
 
 abbrev pub Ordered : Diagram → Type 0
-Ordered d = (n : ℕ) → n < d .size → OrderedAt d (d .node n)
+Ordered d = (r : ℕ) → 0 < r → r ≤ d .size → OrderedAt d r
 
--- The truth of a ref, going down n nodes at most: as many as there are variables are enough.
-unfoldable pub follow : ℕ → Diagram → Assignment → ℕ → Bool
-follow zero d α r = true
-follow (suc n) d α zero = true
-follow (suc n) d α (suc r) =
-    let c = childAt ((d .node r) .runs) (α ((d .node r) .var)) in
-    signed c (follow n d α (ref c))
-
--- What an id of a diagram says.
-unfoldable pub tells : Diagram → Assignment → ℕ → Bool
-tells d α id = signed id (follow variables d α (ref id))
+-- What an id of a diagram says: a terminal's yes, and a node's what the child says on the edge that holds the position of its
+-- variable; no for yes, and yes for no, if the id is complemented.
+pub data Tells (d : Diagram) (α : Assignment) : ℕ → Bool → Type 0 where
+  terminal : {id : ℕ} → ref id ≡ 0 → Tells d α id (signed id true)
+  node : {id : ℕ} {b : Bool} (x : Run) → 0 < ref id → List·Memᴰ x (d .runs (ref id)) → holds x (α (d .var (ref id))) ≡ true → Tells d α (x .child) b → Tells d α id (signed id b)
 
 -- A path from ref to ref along edges.
 pub data Path (d : Diagram) : ℕ → ℕ → Type 0 where
   here : {r : ℕ} → Path d r r
-  via : {n s : ℕ} (x : Run) → List·Memᴰ x ((d .node n) .runs) → Path d (ref (x .child)) s → Path d (suc n) s
+  via : {r s : ℕ} (x : Run) → 0 < r → List·Memᴰ x (d .runs r) → Path d (ref (x .child)) s → Path d r s
 
-abbrev pub any : (Run → Bool) → List Run → Bool
-any f [] = false
-any f (x ∷ xs) = f x || any f xs
+-- "Only reached nodes and their edges count, terminals don't": a list of the nodes that an id reaches, each once,
+abbrev pub Once : List ℕ → Type 0
+Once [] = Unit {0}
+Once (r ∷ rs) = (List·Memᴰ r rs → ⊥) × Once rs
 
--- The same as a test: whether a path of at most n edges leads from r to s.
-unfoldable pub reaches : ℕ → Diagram → ℕ → ℕ → Bool
-reaches zero d r s = eqb r s
-reaches (suc n) d r s = eqb r s || any (λ x. reaches n d (ref (x .child)) s) (runsOf d r)
+pub record Reached (d : Diagram) (id : ℕ) (rs : List ℕ) : Type 0 where
+  pub each : (r : ℕ) → List·Memᴰ r rs ↔ ((0 < r) × Path d (ref id) r)
+  pub once : Once rs
 
--- The numbers n, n - 1, .., 1.
-abbrev pub down : ℕ → List ℕ
-down zero = []
-down (suc n) = suc n ∷ down n
-
-abbrev pub filter : (ℕ → Bool) → List ℕ → List ℕ
-filter f [] = []
-filter f (x ∷ xs) = cond (f x) (x ∷ filter f xs) (filter f xs)
-
-abbrev pub sum : (ℕ → ℕ) → List ℕ → ℕ
-sum w [] = 0
-sum w (x ∷ xs) = w x + sum w xs
-
--- "Only reached nodes and their edges count, terminals don't": the refs of the nodes that an id reaches,
-unfoldable pub reached : Diagram → ℕ → List ℕ
-reached d id = filter (reaches variables d (ref id)) (down (d .size))
-
--- their number, and the number of their edges.
-abbrev pub nodeCount : Diagram → ℕ → ℕ
-nodeCount d id = length (reached d id)
-
-abbrev pub edgeCount : Diagram → ℕ → ℕ
-edgeCount d id = sum (λ r. length (runsOf d r)) (reached d id)
+-- and the number of their edges.
+abbrev pub edges : Diagram → List ℕ → ℕ
+edges d [] = 0
+edges d (r ∷ rs) = length (d .runs r) + edges d rs
 
 -- A table as a diagram: each piece is a run.
 abbrev pub runs : ℕ → ℕ → Pieces ℕ → List Run
 runs b t (last c) = record { from = b; upto = t; child = c } ∷ []
 runs b t (cut c k e) = record { from = b; upto = k - 1; child = c } ∷ runs k t e
 
-abbrev pub vertexOf : Node → Vertex
-vertexOf nd = record { var = nd .var; runs = runs 0 (topOf (nd .var)) (nd .edges) }
-
 abbrev pub diagramOf : Table → Diagram
-diagramOf t = record { size = length t; node = λ n. vertexOf (at t (suc n)) }
+diagramOf t = record { size = length t; var = λ r. (at t r) .var; runs = λ r. runs 0 (topOf ((at t r) .var)) ((at t r) .edges) }

@@ -1,11 +1,11 @@
 -- Readings, and what an id says under one. Document 01, "Readings and conditions" and step 10. Assumes nothing.
-use mathlib.Core.Bool.{Bool, true, false, cond}
-use Prim.Native.Nat.{ℕ, _≤_}
+use mathlib.Core.Path.{_≡_}
+use mathlib.Core.Bool.{Bool, true, cond}
+use Prim.Native.Nat.{ℕ}
 use lib.Dec.{eqb}
 use lib.IntN.{ℤ}
-use lib.Signed.{leZ-yes}
-use Rattle.ranges.specs.Line.{Place, lowest, position}
-use Rattle.diagram.specs.Table.{isRange, topOf, Table, Assignment, value}
+use Rattle.ranges.specs.Line.{Place, position}
+use Rattle.diagram.specs.Table.{isRange, Table, Assignment, value}
 
 -- "32 places and 32 booleans": a place for each range variable and a yes or no for each boolean one, by the variable's number.
 pub record Reading : Type 0 where
@@ -22,22 +22,14 @@ positions ρ v = cond (isRange v) (position (ρ .place v)) (cond (ρ .holds v) 0
 abbrev pub says : Table → Reading → ℕ → Bool
 says t ρ id = value t (positions ρ) id
 
--- The lowest place for every range variable, and yes for every boolean one.
-abbrev pub lowestReading : Reading
-lowestReading = record { place = λ v. lowest; holds = λ v. true; within = λ v. (leZ-yes tt, leZ-yes tt) }
+-- One place for every range variable, and yes for every boolean one.
+abbrev pub everywhere : (p : ℤ) → Place p → Reading
+everywhere p h = record { place = λ v. p; holds = λ v. true; within = λ v. h }
 
--- The same reading with a range variable at another place,
-abbrev pub atPlace : Reading → ℕ → (p : ℤ) → Place p → Reading
-atPlace ρ v p ok = record { place = λ w. cond (eqb w v) p (ρ .place w); holds = ρ .holds; within = λ w. placed (eqb w v) w }
-  where
-    placed : (b : Bool) (w : ℕ) → Place (cond b p (ρ .place w))
-    placed true w = ok
-    placed false w = ρ .within w
+-- Two readings that differ in the place of a range variable alone.
+abbrev pub SameBut : ℕ → Reading → Reading → Type 0
+SameBut v ρ σ = ((w : ℕ) → (w ≡ v → ⊥) → σ .place w ≡ ρ .place w) × ((w : ℕ) → σ .holds w ≡ ρ .holds w)
 
--- and with a boolean one at another value.
+-- The same reading with a boolean variable at another value.
 abbrev pub switched : Reading → ℕ → Bool → Reading
 switched ρ v b = record { place = ρ .place; holds = λ w. cond (eqb w v) b (ρ .holds w); within = ρ .within }
-
--- An assignment within the positions of each variable.
-abbrev pub Within : Assignment → Type 0
-Within α = (v : ℕ) → α v ≤ topOf v

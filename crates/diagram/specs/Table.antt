@@ -33,13 +33,9 @@ pub record Node : Type 0 where
 abbrev pub Table : Type 0
 Table = List Node
 
--- The terminal as a node, later in the order than each variable.
-abbrev pub end : Node
-end = record { var = variables; edges = last 0 }
-
--- The node that a ref stands for: 0 the terminal, n + 1 node number n.
+-- The node that a ref stands for: n + 1 node number n, and 0 the terminal, as one that is later in the order than each variable.
 unfoldable pub at : Table → ℕ → Node
-at [] r = end
+at [] r = record { var = variables; edges = last 0 }
 at (nd ∷ t) r = cond (eqb r (suc (length t))) nd (at t r)
 
 -- A position for each variable.
@@ -54,13 +50,8 @@ flipped (suc s) b = not b
 abbrev pub signed : ℕ → Bool → Bool
 signed id b = flipped (sign id) b
 
--- The truth of a ref: the terminal's is yes, and a node's is that of the child at the position of its variable,
-unfoldable pub truth : Table → Assignment → ℕ → Bool
-truth [] α r = true
-truth (nd ∷ t) α r =
-    let c = select (nd .edges) (α (nd .var)) in
-    cond (eqb r (suc (length t))) (signed c (truth t α (ref c))) (truth t α r)
-
--- and of an id: "the lowest bit is the complement".
+-- What an id says: a terminal's is yes, and a node's what its child at the position of its variable says; "the lowest bit is the
+-- complement".
 unfoldable pub value : Table → Assignment → ℕ → Bool
-value t α id = signed id (truth t α (ref id))
+value [] α id = signed id true
+value (nd ∷ t) α id = cond (eqb (ref id) (suc (length t))) (signed id (value t α (select (nd .edges) (α (nd .var))))) (value t α id)

@@ -10,7 +10,7 @@ use lib.IntN.{ℤ}
 use Rattle.ids.specs.Id.{ref}
 use Rattle.ids.specs.Index.{KnownTo}
 use Rattle.ranges.specs.Line.{Key}
-use Rattle.ranges.specs.Bounding.{inside, empty}
+use Rattle.ranges.specs.Bounding.{inside, Empty}
 use Rattle.ranges.specs.Comparing.{compares}
 use Rattle.diagram.specs.Table.{firstBoolean, Table}
 use Rattle.diagram.specs.Sound.{Known, Sound, Continues, same}
@@ -23,7 +23,7 @@ use Rattle.algebra.specs.Conditions.{from-range, comparison, from-bool}
 use Rattle.algebra.specs.Conjunction.{and, or}
 use Rattle.algebra.specs.Changing.{restrict, narrow, widen}
 use Rattle.algebra.specs.Answering.{Answers, Answerable}
-use Rattle.algebra.proofs.Promises.{from-range-answers, comparison-answers, from-bool-answers, and-answers, or-answers, restrict-answers, restrict-range, narrow-answers, narrow-empty-answers, widen-answers, fits-exactly}
+use Rattle.algebra.proofs.Promises.{from-range-answers, comparison-answers, from-bool-answers, and-answers, or-answers, restrict-answers, restrict-range, empty-or-nearest, nearest-says-once, narrow-answers, narrow-empty-answers, widen-answers, fits-exactly}
 use Rattle.table.specs.Layout.{room, Store}
 use Rattle.table.specs.Lent.{SoundLent}
 use Rattle.table.specs.Held.{held}
@@ -32,7 +32,7 @@ use Rattle.table.proofs.Laws.{lt-or-le}
 use Rattle.table.proofs.Once.{sound-once}
 use Rattle.table.proofs.Promises.{holds-a-sound-table, fits-its-room, counts-what-is-held}
 use Rattle.kernel.specs.Makes.{Leaves, Makes, made-1, made-2, made-3, made-4, made-6, made-0, BothKeyed}
-use Rattle.kernel.specs.Meaning.{atNearest}
+use Rattle.algebra.specs.Narrowing.{AtNearest}
 use Rattle.kernel.specs.Requests.{Request, range-of, comparison-of, boolean-of, both-of, either-of, restriction-of, narrowing-of, widening-of, Comes, LentFor, KnownFor, KindFor, Asks, LentAnswer, DoneOrNoLentRoom}
 use Rattle.kernel.proofs.Admitted.{check-lends}
 use Rattle.kernel.proofs.Promises.{empty-answer-exists}
@@ -122,11 +122,13 @@ module _ (t : Table) (z : Sound t) where
 
       range : v < firstBoolean → Answers t m (restrict t v value id)
       range l = rw (restrict-range t z id a v l value) (record { right = record { sound = z; continues = same; known = a; means = λ ρ. sym (e .1 l ρ) }; reached = λ r p n. absurd (omega arith) })
-  makes-what-is-asked (narrowing-of id v lower upper) keys a h m e = go (empty lower upper) refl
+  makes-what-is-asked (narrowing-of id v lower upper) keys a h m e = ⊎-elim nowhere somewhere (empty-or-nearest v lower upper (keys .0) (keys .1))
     where
-      go : (b : Bool) → empty lower upper ≡ b → Answers t m (narrow t v lower upper id)
-      go true i = narrow-empty-answers t z id a v h lower upper (keys .0) (keys .1) i m (e .1 i)
-      go false i = answers-as (narrow-answers t z id a v h lower upper (keys .0) (keys .1) i) (e .0 i keys)
+      nowhere : Empty lower upper → Answers t m (narrow t v lower upper id)
+      nowhere i = narrow-empty-answers t z id a v h lower upper (keys .0) (keys .1) i m (e .1 i)
+
+      somewhere : ((ρ : Reading) → (σ : Reading) × AtNearest v lower upper ρ σ) → Answers t m (narrow t v lower upper id)
+      somewhere f = answers-as (narrow-answers t z id a v h lower upper (keys .0) (keys .1) (λ ρ. f ρ .0) (λ ρ. f ρ .1)) (λ ρ. e .0 ρ (f ρ .0) (f ρ .1))
   makes-what-is-asked (widening-of id v lower upper) keys a h m e = answers-as (widen-answers t z id a v h lower upper (keys .0) (keys .1)) e
 
   -- and something is asked.
@@ -143,11 +145,20 @@ module _ (t : Table) (z : Sound t) where
 
       range : v < firstBoolean → (m : Reading → Bool) × Asks (restriction-of id v value) t m
       range l = (λ ρ. says t ρ id, (λ k. absurd (omega arith), λ k ρ. refl))
-  something-is-asked (narrowing-of id v lower upper) keys a h = go (empty lower upper) refl
+  something-is-asked (narrowing-of id v lower upper) keys a h = ⊎-elim nowhere somewhere (empty-or-nearest v lower upper (keys .0) (keys .1))
     where
-      go : (b : Bool) → empty lower upper ≡ b → (m : Reading → Bool) × Asks (narrowing-of id v lower upper) t m
-      go true i = let x = empty-answer-exists t z v h id a in (x .0, (λ f. absurd (false≢true (sym f ∙ i)), λ f. x .1))
-      go false i = (λ ρ. says t (atNearest v lower upper keys ρ) id, (λ f k ρ. refl, λ f. absurd (false≢true (sym i ∙ f))))
+      -- no place of a reading is inside empty bounds
+      never : Empty lower upper → (ρ σ : Reading) → AtNearest v lower upper ρ σ → ⊥
+      never i ρ σ n = false≢true (sym (i (σ .place v) (σ .within v)) ∙ n .1 .within)
+
+      nowhere : Empty lower upper → (m : Reading → Bool) × Asks (narrowing-of id v lower upper) t m
+      nowhere i = let x = empty-answer-exists t z v h id a in (x .0, (λ ρ σ n. absurd (never i ρ σ n), λ f. x .1))
+
+      somewhere : ((ρ : Reading) → (σ : Reading) × AtNearest v lower upper ρ σ) → (m : Reading → Bool) × Asks (narrowing-of id v lower upper) t m
+      somewhere f =
+          (λ ρ. says t (f ρ .0) id,
+          (λ ρ σ n. nearest-says-once v h lower upper (keys .0) (keys .1) t id ρ (f ρ .0) σ (f ρ .1) n,
+          λ i. absurd (let ρ = everywhere lowest (leZ-yes tt, leZ-yes tt) in never i ρ (f ρ .0) (f ρ .1))))
   something-is-asked (widening-of id v lower upper) keys a h = (λ ρ. says t ρ id && inside lower upper (ρ .place v), λ ρ. refl)
 
 -- what is known to the words is known to the table that they hold

@@ -1,6 +1,6 @@
 -- The calls that may add nodes, as one kind of thing, so that a demand on all of them is one sentence (`proofs/Demands`). Assumes nothing.
 use mathlib.Core.Path.{_≡_}
-use mathlib.Core.Bool.{Bool, true, false, _&&_, _||_}
+use mathlib.Core.Bool.{Bool, _&&_, _||_}
 use mathlib.Core.List.{List}
 use mathlib.Core.Logic.{_⊎_}
 use Prim.Native.Nat.{ℕ, _≤_, _<_}
@@ -8,20 +8,19 @@ use lib.ListN.{length}
 use lib.IntN.{ℤ}
 use Rattle.ids.specs.Index.{KnownTo}
 use Rattle.ranges.specs.Line.{Key}
-use Rattle.ranges.specs.Bounding.{inside, empty}
+use Rattle.ranges.specs.Bounding.{inside, Empty}
 use Rattle.ranges.specs.Comparing.{compares}
 use Rattle.ranges.specs.declared.bounds.Bound.{Bound}
 use Rattle.ranges.specs.declared.bounds.Comparison.{Comparison}
 use Rattle.diagram.specs.Table.{firstBoolean, variables, Table}
 use Rattle.diagram.specs.Sound.{Continues}
 use Rattle.diagram.specs.Reading.{Reading, says, switched}
-use Rattle.algebra.specs.Emptying.{EmptyAnswer}
+use Rattle.algebra.specs.Narrowing.{AtNearest, EmptyAnswer}
 use Rattle.table.specs.Layout.{Store}
 use Rattle.table.specs.Lent.{SoundLent}
 use Rattle.table.specs.Held.{held}
 use Rattle.table.specs.Told.{done, Allowed}
-use Rattle.kernel.specs.Makes.{noRoom, MemoOutcomes, BothKeyed, BothKnown, FromRange, Compares, FromBool, Lending, Ands, Ors, Restricts, Narrows, Widens}
-use Rattle.kernel.specs.Meaning.{atNearest}
+use Rattle.kernel.specs.Makes.{noRoom, MemoOutcomes, BothKnown, FromRange, Compares, FromBool, Lending, Ands, Ors, Restricts, Narrows, Widens}
 
 -- What is asked: a condition, or an operation on ids.
 pub data Request : Type 0 where
@@ -90,8 +89,7 @@ Asks (restriction-of id v value) t m =
     (firstBoolean ≤ v → (ρ : Reading) → m ρ ≡ says t (switched ρ v value) id) × (v < firstBoolean → (ρ : Reading) → m ρ ≡ says t ρ id)
 -- "the old answer at the nearest place inside the bounds", and what is asked with empty bounds
 Asks (narrowing-of id v lower upper) t m =
-    (empty lower upper ≡ false → (keys : BothKeyed lower upper) (ρ : Reading) → m ρ ≡ says t (atNearest v lower upper keys ρ) id)
-    × (empty lower upper ≡ true → EmptyAnswer t v id m)
+    ((ρ σ : Reading) → AtNearest v lower upper ρ σ → m ρ ≡ says t σ id) × (Empty lower upper → EmptyAnswer t v id m)
 Asks (widening-of id v lower upper) t m = (ρ : Reading) → m ρ ≡ (says t ρ id && inside lower upper (ρ .place v))
 
 -- Lent words of the same lengths as these, sound, that hold a table that continues the one of u records here, with an id that says m.

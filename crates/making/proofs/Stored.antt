@@ -11,7 +11,8 @@ use lib.IntN.{ℤ, pos}
 use borrow.Author.Tests.{le-ltb}
 use Rattle.ids.specs.Id.{sign, ref, under}
 use Rattle.ids.proofs.Signs.{ref-under, under-inj, sign-under}
-use Rattle.ranges.specs.Line.{placeAt, top}
+use Rattle.ranges.specs.Line.{top}
+use Rattle.ranges.specs.Ending.{placeAt}
 use Rattle.ranges.proofs.Positions.{place-placeAt, position-placeAt}
 use Rattle.diagram.specs.Pieces.{Each, Reduced}
 use Rattle.diagram.specs.Table.{variables, firstBoolean, isRange, topOf, Node, at}

@@ -8,7 +8,7 @@ use lib.Dec.{ltb}
 use lib.ListN.{length, getD}
 use lib.IntN.{ℤ, pos}
 use Rattle.ids.specs.Id.{under}
-use Rattle.ranges.specs.Line.{placeAt}
+use Rattle.ranges.specs.Ending.{placeAt}
 use Rattle.diagram.specs.Table.{isRange}
 use Rattle.table.specs.Layout.{varAt, countAt, firstAt, spareAt, kidAt, cutAt}
 use Rattle.making.specs.declared.edges.Edges as built

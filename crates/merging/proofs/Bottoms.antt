@@ -5,7 +5,7 @@ use Prim.Native.Nat.{ℕ, _≤_, _<_}
 use native.Mathlib.Omega.{arith}
 use lib.Dec.{leb}
 use Rattle.ranges.specs.Line.{position}
-use Rattle.ranges.specs.Bounding.{firstPlace, lastPlace, empty}
+use Rattle.ranges.specs.Ending.{firstPlace, lastPlace, empty}
 use Rattle.ranges.specs.declared.bounds.Bound.{Bound}
 use Rattle.diagram.specs.Pieces.{Pieces, last, cut, first, Reduced}
 use Rattle.diagram.specs.Table.{variables, isRange, topOf, Table}

@@ -10,9 +10,8 @@ use mir.ValLaws.{toZ-ofZ}
 use denote.Laws.{Is}
 use denote.Enum.Laws.{owed, vals}
 use Rattle.ranges.specs.Line.{Key, exactly, position, top}
-use Rattle.ranges.specs.Bounding.{Keyed, firstPlace, lastPlace}
-use Rattle.ranges.specs.Comparing.{lowerOf, upperOf, outsideOf}
-use Rattle.ranges.specs.Holding.{Bounded, Compares}
+use Rattle.ranges.specs.Bounding.{Keyed}
+use Rattle.ranges.specs.Ending.{firstPlace, lastPlace, lowerOf, upperOf, outsideOf, Bounded, Compares}
 use Rattle.ranges.specs.declared.bounds.Bound.{Bound}
 use Rattle.ranges.specs.declared.bounds.Bound.the-variants.{Open, Includes, Excludes}
 use Rattle.ranges.specs.declared.bounds.Comparison.{Comparison}

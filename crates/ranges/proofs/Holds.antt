@@ -6,7 +6,8 @@ use native.Mathlib.Omega.{arith}
 use lib.Dec.{leb, ltb, eqb}
 use borrow.Author.Tests.{leb-true, leb-false, le-leb, lt-leb, lt-ltb, le-ltb, eqb-true, eqb-false, eq-eqb, ne-eqb, ltb-true, ltb-false}
 use Rattle.ranges.specs.Line.{top}
-use Rattle.ranges.specs.Holding.{holds, Both, Emptiness, Before, After, Outside, neighbours}
+use Rattle.ranges.specs.Holding.{holds, Both, Emptiness, Outside, neighbours}
+use Rattle.ranges.specs.Ending.{Before, After}
 use Rattle.ranges.specs.declared.spans.Range.{Range}
 
 -- A position is in a range, below it or above it.

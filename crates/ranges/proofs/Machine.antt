@@ -8,7 +8,8 @@ use lib.Signed.{mag, nonNeg}
 use mir.Syntax.{w32, w64}
 use mir.Val.{toZ, ofZ, Fits, SFits}
 use mir.ValLaws.{toZ-ofZ, toZ-pos}
-use Rattle.ranges.specs.Line.{Key, Place, exactly, position, placeAt, top}
+use Rattle.ranges.specs.Line.{Key, Place, exactly, position, top}
+use Rattle.ranges.specs.Ending.{placeAt}
 use Rattle.ranges.proofs.Positions.{position-top, placeAt-position, place-placeAt, place-exactly}
 
 pub key-fits : (v : ℤ) → mag v < 2 ^ 31 → Key v

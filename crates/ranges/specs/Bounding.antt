@@ -1,8 +1,10 @@
 -- Bounds, and the range between two of them. Document 01, "Readings and conditions". Assumes nothing.
-use mathlib.Core.Bool.{Bool, true, cond, _&&_}
-use lib.IntN.{ℤ, pos, _+ℤ_, _-ℤ_}
+use mathlib.Core.Path.{_≡_}
+use mathlib.Core.Bool.{Bool, true, false, _&&_}
+use Prim.Native.Nat.{ℕ, _+_, _-_, _≤_}
+use lib.IntN.{ℤ}
 use lib.Signed.{leZ, ltZ}
-use Rattle.ranges.specs.Line.{Key, exactly, lowest, highest}
+use Rattle.ranges.specs.Line.{Key, Place, exactly, position}
 use Rattle.ranges.specs.declared.bounds.Bound.{Bound}
 use Rattle.ranges.specs.declared.bounds.Bound.the-variants.{Open, Includes, Excludes}
 
@@ -28,22 +30,15 @@ Keyed (Excludes v) = Key v
 abbrev pub inside : Bound → Bound → ℤ → Bool
 inside lower upper p = above lower p && below upper p
 
--- The first place of a range, by its lower bound,
-abbrev pub firstPlace : Bound → ℤ
-firstPlace Open = lowest
-firstPlace (Includes v) = exactly v
-firstPlace (Excludes v) = exactly v +ℤ pos 1
+-- "A range is empty when its first place is above its last": when no place is inside.
+abbrev pub Empty : Bound → Bound → Type 0
+Empty lower upper = (p : ℤ) → Place p → inside lower upper p ≡ false
 
--- and the last, by its upper one.
-abbrev pub lastPlace : Bound → ℤ
-lastPlace Open = highest
-lastPlace (Includes v) = exactly v
-lastPlace (Excludes v) = exactly v -ℤ pos 1
+-- How far two places are apart.
+abbrev pub distance : ℤ → ℤ → ℕ
+distance p q = (position p - position q) + (position q - position p)
 
--- "A range is empty when its first place is above its last."
-abbrev pub empty : Bound → Bound → Bool
-empty lower upper = ltZ (lastPlace upper) (firstPlace lower)
-
--- The place inside the bounds that is nearest to a place, where they are not empty.
-abbrev pub nearest : Bound → Bound → ℤ → ℤ
-nearest lower upper p = cond (ltZ p (firstPlace lower)) (firstPlace lower) (cond (ltZ (lastPlace upper) p) (lastPlace upper) p)
+-- "The nearest place inside the bounds" to a place p: q is inside, and no place inside is nearer.
+pub record Nearest (lower upper : Bound) (p q : ℤ) : Type 0 where
+  pub within : inside lower upper q ≡ true
+  pub least : (r : ℤ) → Place r → inside lower upper r ≡ true → distance p q ≤ distance p r

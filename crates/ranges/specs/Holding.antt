@@ -2,11 +2,11 @@
 use mathlib.Core.Path.{_≡_}
 use mathlib.Core.Bool.{Bool, true, false, not, cond, _&&_, _||_}
 use Prim.Native.Nat.{ℕ, suc, _≤_}
-use lib.Dec.{leb, ltb, eqb}
+use lib.Dec.{leb, eqb}
 use lib.IntN.{ℤ}
 use Rattle.ranges.specs.Line.{Place, position, top}
-use Rattle.ranges.specs.Bounding.{inside, firstPlace, lastPlace}
-use Rattle.ranges.specs.Comparing.{compares, lowerOf, upperOf, outsideOf}
+use Rattle.ranges.specs.Bounding.{inside}
+use Rattle.ranges.specs.Comparing.{compares}
 use Rattle.ranges.specs.declared.bounds.Bound.{Bound}
 use Rattle.ranges.specs.declared.bounds.Comparison.{Comparison}
 use Rattle.ranges.specs.declared.spans.Range.{Range}
@@ -17,23 +17,13 @@ use Rattle.ranges.specs.declared.spans.Compared.{Compared}
 abbrev pub holds : Range → ℕ → Bool
 holds r q = leb (r .first) q && leb q (r .last)
 
--- Whether one of two ranges does.
-abbrev pub either : Parts → ℕ → Bool
-either s q = holds (s .left) q || holds (s .right) q
+-- The range between two bounds: of every place, whether it is inside.
+abbrev pub Inside : Bound → Bound → Range → Type 0
+Inside lower upper r = (p : ℤ) → Place p → holds r (position p) ≡ inside lower upper p
 
--- The range between two bounds: of every place, whether it is inside. Its ends are the first and the last place, both on the line.
-pub record Bounded (lower upper : Bound) (r : Range) : Type 0 where
-  pub first : r .first ≡ position (firstPlace lower)
-  pub last : r .last ≡ position (lastPlace upper)
-  pub first-within : r .first ≤ top
-  pub last-within : r .last ≤ top
-  pub inner : (p : ℤ) → Place p → holds r (position p) ≡ inside lower upper p
-
--- Where a comparison with a key holds: of every place, whether it is inside the range, or outside it. The range is that of its bounds.
-pub record Compares (op : Comparison) (key : ℤ) (c : Compared) : Type 0 where
-  pub between : Bounded (lowerOf op key) (upperOf op key) (c .range)
-  pub side : c .outside ≡ outsideOf op
-  pub says : (p : ℤ) → Place p → cond (c .outside) (not (holds (c .range) (position p))) (holds (c .range) (position p)) ≡ compares op key p
+-- Where a comparison with a key holds: of every place, whether it is inside the range, or outside it.
+abbrev pub Where : Comparison → ℤ → Compared → Type 0
+Where op key c = (p : ℤ) → Place p → cond (c .outside) (not (holds (c .range) (position p))) (holds (c .range) (position p)) ≡ compares op key p
 
 -- The positions that both hold.
 abbrev pub Both : Range → Range → Range → Type 0
@@ -44,16 +34,9 @@ pub record Emptiness (r : Range) (answer : Bool) : Type 0 where
   pub yes : answer ≡ true → (q : ℕ) → holds r q ≡ false
   pub no : answer ≡ false → holds r (r .first) ≡ true
 
--- The positions below one, and those of the line above one.
-abbrev pub Before : ℕ → Range → Type 0
-Before n r = (q : ℕ) → holds r q ≡ ltb q n
-
-abbrev pub After : ℕ → Range → Type 0
-After n r = (q : ℕ) → q ≤ top → holds r q ≡ ltb n q
-
 -- The positions of the line that it does not hold.
 abbrev pub Outside : Range → Parts → Type 0
-Outside r s = (q : ℕ) → q ≤ top → either s q ≡ not (holds r q)
+Outside r s = (q : ℕ) → q ≤ top → (holds (s .left) q || holds (s .right) q) ≡ not (holds r q)
 
 -- Two ranges are neighbours when the second goes on where the first ends, without a gap or an overlap: neither is empty, and the
 -- first place of the second is the next one after the last place of the first.

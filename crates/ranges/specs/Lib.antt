@@ -3,3 +3,4 @@ pub mod Line
 pub mod Bounding
 pub mod Comparing
 pub mod Holding
+pub mod Ending

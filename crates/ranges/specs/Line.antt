@@ -1,6 +1,6 @@
 -- The dense line: keys, places, cuts. Document 01, "Readings and conditions". Assumes nothing.
 use Prim.Native.Nat.{ℕ, _+_, _-_, _^_}
-use lib.IntN.{ℤ, pos, negsuc, _+ℤ_, _-ℤ_}
+use lib.IntN.{ℤ, pos, negsuc, _+ℤ_}
 use lib.Signed.{_≤ℤ_}
 
 -- A whole number from one to another.
@@ -38,7 +38,3 @@ position (negsuc n) = 2 ^ 32 - n
 -- The position of the highest place.
 abbrev pub top : ℕ
 top = 2 ^ 33
-
--- And back: the place at a position.
-abbrev pub placeAt : ℕ → ℤ
-placeAt q = pos q -ℤ pos (2 ^ 32 + 1)

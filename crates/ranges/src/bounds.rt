@@ -4,7 +4,7 @@ use super::places::position_of_key;
 ghost use mathlib.Core.Path.{_≡_};
 ghost use mathlib.Core.Bool.{true};
 ghost use Rattle.ranges.specs.Line.{position};
-ghost use Rattle.ranges.specs.Bounding.{firstPlace, lastPlace};
+ghost use Rattle.ranges.specs.Ending.{firstPlace, lastPlace};
 ghost use Rattle.ranges.specs.declared.bounds.Bound.the-variants.{Open};
 
 // One end of a range: open, with a key, or up to a key but without it.

@@ -2,7 +2,8 @@
 // where it reads cuts and places that were lent.
 ghost use mathlib.Core.Path.{_≡_};
 ghost use Prim.Native.Nat.{_≤_};
-ghost use Rattle.ranges.specs.Line.{Place, exactly, position, placeAt, top};
+ghost use Rattle.ranges.specs.Line.{Place, exactly, position, top};
+ghost use Rattle.ranges.specs.Ending.{placeAt};
 
 // The end places.
 pub const LOWEST: i64 = -4294967297;

@@ -5,7 +5,8 @@ use super::bounds::first_of;
 use super::bounds::last_of;
 use super::places::TOP;
 ghost use mathlib.Core.Path.{_≡_};
-ghost use Rattle.ranges.specs.Holding.{Bounded, Compares, Both, Emptiness, Before, After, Outside, neighbours};
+ghost use Rattle.ranges.specs.Holding.{Both, Emptiness, Outside, neighbours};
+ghost use Rattle.ranges.specs.Ending.{Bounded, Compares, Before, After};
 ghost use mathlib.Core.Bool.{false};
 
 // The positions from the first to the last, both included; none where the first is above the last.

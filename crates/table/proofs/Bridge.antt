@@ -12,7 +12,7 @@ use lib.Dec.{ltb}
 use lib.ListN.{length}
 use lib.IntN.{ℤ, pos, negsuc}
 use Rattle.diagram.specs.Pieces.{Pieces, last, cut, first, count, Reduced, Each, run}
-use Rattle.diagram.specs.Table.{Node, Table, at, end, topOf}
+use Rattle.diagram.specs.Table.{Node, Table, at, topOf}
 use Rattle.diagram.specs.Sound.{Child, Extends, Sound}
 use Rattle.table.specs.Layout.{varAt, countAt, firstAt, kidAt, cutAt, cutPosition, Store}
 use Rattle.table.specs.Lent.{Stands, Blank, Rules, SameRun, SameRecord, SoundLent}
@@ -158,7 +158,7 @@ module _ (st : Store) where
       go (yes q) rec = ap (λ (j : ℕ). at (nodeAt st n ∷ held st n) (suc j)) (q ∙ sym e) ∙ (lookup.at-new (nodeAt st n) (held st n) ∙ ap (nodeAt st) (sym q))
       go (no q) rec = lookup.at-old (nodeAt st n) (held st n) (suc i) (omega (arith, e)) ∙ rec (omega arith)
 
-  at-zero : (n : ℕ) → at (held st n) 0 ≡ end
+  at-zero : (n : ℕ) → at (held st n) 0 ≡ lookup.end
   unfolding held at
   at-zero zero = refl
   at-zero (suc n) = lookup.at-old (nodeAt st n) (held st n) 0 (omega arith) ∙ at-zero n

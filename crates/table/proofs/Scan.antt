@@ -12,7 +12,7 @@ use lib.Dec.{eqb, ltb}
 use lib.ListN.{length}
 use lib.IntN.{ℤ}
 use Rattle.diagram.specs.Pieces.{last, cut, select}
-use Rattle.diagram.specs.Table.{Table, Assignment, signed, truth, value}
+use Rattle.diagram.specs.Table.{Table, Assignment, signed, value}
 use Rattle.ids.specs.Id.{TRUE, sign, under}
 use Rattle.table.specs.Layout.{varAt, countAt, firstAt, kidAt, cutAt, cutPosition, Store}
 use Rattle.table.specs.Lent.{KidsStand}
@@ -96,13 +96,12 @@ module _ (st : Store) where
       let l = table-length (k + n) in
       ap (λ (m : ℕ). value (table m) α id) a ∙ (lookup.value-old (nodeAt st (k + n)) (table (k + n)) α id (omega arith) ∙ value-longer α n k id h)
 
-  newest : (α : Assignment) (n : ℕ) → truth (table (suc n)) α (suc n) ≡ value (table n) α (select (edgesAt (st .children) (st .cuts) (varAt (st .nodes) n) (firstAt (st .nodes) n) (countAt (st .nodes) n)) (α (varAt (st .nodes) n)))
+  newest : (α : Assignment) (n : ℕ) → lookup.truth (table (suc n)) α (suc n) ≡ value (table n) α (select (edgesAt (st .children) (st .cuts) (varAt (st .nodes) n) (firstAt (st .nodes) n) (countAt (st .nodes) n)) (α (varAt (st .nodes) n)))
   unfolding held
-  newest α n = ap (λ (m : ℕ). truth (table (suc n)) α (suc m)) (sym (table-length n)) ∙ lookup.truth-new (nodeAt st n) (table n) α
+  newest α n = ap (λ (m : ℕ). lookup.truth (table (suc n)) α (suc m)) (sym (table-length n)) ∙ lookup.truth-new (nodeAt st n) (table n) α
 
   own : (α : Assignment) (id n : ℕ) → id / 2 ≡ suc n → value (table (suc n)) α id ≡ signed id (value (table n) α (select (edgesAt (st .children) (st .cuts) (varAt (st .nodes) n) (firstAt (st .nodes) n) (countAt (st .nodes) n)) (α (varAt (st .nodes) n))))
-  unfolding value
-  own α id n g = ap (λ (m : ℕ). signed id (truth (table (suc n)) α m)) g ∙ ap (signed id) (newest α n)
+  own α id n g = lookup.value-truth (table (suc n)) α id ∙ ap (λ (m : ℕ). signed id (lookup.truth (table (suc n)) α m)) g ∙ ap (signed id) (newest α n)
 
   -- an id of node n says what the child does, by its sign
   pub value-child : (α : Assignment) (u id c : ℕ) → 2 ≤ id → id / 2 ≤ u → Next st α (id / 2 - 1) c → value (table u) α id ≡ signed id (value (table u) α c)
@@ -121,7 +120,7 @@ module _ (st : Store) where
   step {α} {u} {id} {w} {c} {r} e a b x q = value-child α u id c a b (rw e at x) ∙ sym (ap (value (table u) α) q ∙ lookup.value-under (table u) α (sign id) c)
 
   value-true : (α : Assignment) (u : ℕ) → value (table u) α 0 ≡ true
-  unfolding held value truth
+  unfolding held value
   value-true α zero = refl
   value-true α (suc u) = let l = table-length u in lookup.value-old (nodeAt st u) (table u) α 0 (omega arith) ∙ value-true α u
 
