@@ -7,16 +7,17 @@ use Prim.Native.Nat.{ℕ, _≤_, _<_}
 use native.Mathlib.Omega.{arith}
 use lib.ListN.{length}
 use lib.IntN.{ℤ}
+use lib.Signed.{leZ-yes}
 use Rattle.ids.specs.Id.{ref}
 use Rattle.ids.specs.Index.{KnownTo}
-use Rattle.ranges.specs.Line.{Key}
+use Rattle.ranges.specs.Line.{Key, lowest}
 use Rattle.ranges.specs.Bounding.{inside, Empty}
 use Rattle.ranges.specs.Comparing.{compares}
 use Rattle.diagram.specs.Table.{firstBoolean, Table}
 use Rattle.diagram.specs.Sound.{Known, Sound, Continues, same}
 use Rattle.diagram.specs.Room.{Fits}
-use Rattle.diagram.specs.Reading.{Reading, positions, says, switched}
-use Rattle.diagram.specs.Ordered.{Diagram, Ordered, tells, nodeCount, edgeCount, diagramOf}
+use Rattle.diagram.specs.Reading.{Reading, positions, says, everywhere, switched}
+use Rattle.diagram.specs.Ordered.{Diagram, Ordered, Tells, Reached, edges, diagramOf}
 use Rattle.diagram.proofs.Continuing.{continues-length}
 use Rattle.diagram.proofs.Promises.{old-ids-say-the-same, equal-when-they-agree, no-smaller-diagram}
 use Rattle.algebra.specs.Conditions.{from-range, comparison, from-bool}
@@ -58,8 +59,8 @@ module _ {st : Store} {index : List ℕ} {u e : ℕ} (c : Checks st index done u
   equal-ids-equal-answers a b ka kb = equal-when-they-agree (held st u) (holds-a-sound-table st index u taken) a b (into-held taken a ka) (into-held taken b kb)
 
   -- Demand 3: no ordered diagram that says what one of its ids says has fewer nodes, or fewer edges, than that id reaches in it.
-  pub fewest-nodes-and-edges : (a : ℕ) → KnownTo u a → (d : Diagram) → Ordered d → (c : ℕ) → ref c ≤ d .size → ((ρ : Reading) → says (held st u) ρ a ≡ tells d (positions ρ) c)
-      → (nodeCount (diagramOf (held st u)) a ≤ nodeCount d c) × (edgeCount (diagramOf (held st u)) a ≤ edgeCount d c)
+  pub fewest-nodes-and-edges : (a : ℕ) → KnownTo u a → (d : Diagram) → Ordered d → (c : ℕ) → ref c ≤ d .size → ((ρ : Reading) → Tells d (positions ρ) c (says (held st u) ρ a))
+      → (rs ss : List ℕ) → Reached (diagramOf (held st u)) a rs → Reached d c ss → (length rs ≤ length ss) × (edges (diagramOf (held st u)) rs ≤ edges d ss)
   fewest-nodes-and-edges a ka = no-smaller-diagram (held st u) (holds-a-sound-table st index u taken) a (into-held taken a ka)
 
 -- The keys of a request, and the table and the id that its operation makes.
