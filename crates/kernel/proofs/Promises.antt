@@ -6,14 +6,17 @@ use mathlib.Core.List.{List}
 use Prim.Native.Nat.{ℕ, _≤_, _<_}
 use native.Mathlib.Omega.{arith}
 use lib.ListN.{length, replicate}
-use lib.IntN.{ℤ}
+use lib.IntN.{ℤ, pos}
+use lib.Signed.{leZ-yes}
 use Rattle.ids.specs.Id.{FALSE}
 use Rattle.ids.specs.Index.{KnownTo}
 use Rattle.ranges.specs.Line.{Key}
 use Rattle.ranges.specs.Bounding.{Keyed, inside, Empty}
 use Rattle.ranges.specs.Comparing.{compares}
 use Rattle.ranges.specs.declared.bounds.Bound.{Bound}
+use Rattle.ranges.specs.declared.bounds.Bound.the-variants.{Excludes}
 use Rattle.ranges.specs.declared.bounds.Comparison.{Comparison}
+use Rattle.ranges.proofs.Nearest.{empty-exactly}
 use Rattle.diagram.specs.Table.{firstBoolean, variables, Table}
 use Rattle.diagram.specs.Sound.{Known, Sound, same}
 use Rattle.diagram.specs.Reading.{Reading, says, switched}
@@ -31,7 +34,7 @@ use Rattle.table.specs.Told.{done, Allowed}
 use Rattle.table.proofs.Once.{sound-once}
 use Rattle.table.proofs.Promises.{holds-a-sound-table, counts-what-is-held}
 use Rattle.kernel.specs.Makes.{Makes, made-1, made-2, made-3, made-4, made-6, made-0, BothKnown, FromRange, Compares, FromBool, Lending, WithMemo, Ands, Ors, Restricts, Narrows, Widens, Disjoints, disjoint-1, disjoint-2, disjoint-3, disjoint-0}
-use Rattle.kernel.specs.Meaning.{Answered, HasRoom, DoneOrNoRoom, EmptyAnswered, EmptyDoneOrNoRoom}
+use Rattle.kernel.specs.Meaning.{Answered, HasRoom, DoneOrNoRoom}
 use Rattle.kernel.proofs.Once.{leaves-fits, makes-once}
 
 -- An operation that is right: from every sound table that knows its ids it answers with m, which says of each reading yes or no.
@@ -67,15 +70,6 @@ module _ (lent : Type 0) (known : ℕ → Type 0) (kind : Type 0) (want : Table 
       inl (refl, subst (HasRoom m st) (sound-once st index u′ u s′ s) (fits-exactly _ _ _ (right-here u′ s′ a′ v′) (room (st .nodes)) (length (st .children)) .1 (leaves-fits h)))
 
 module _ (lent : Type 0) (known : ℕ → Type 0) (kind : Type 0) (want : Table → Table × ℕ) (st : Store) (index : List ℕ) where
-  -- Number 0 is told where the checks 2 to 4 pass.
-  done-admitted : {k id : ℕ} {memo : List ℕ} {st′ : Store} {index′ memo′ : List ℕ} → Makes lent known kind want st index memo k id st′ index′ memo′ → k ≡ done → (u : ℕ) × SoundLent st index u × known u × kind
-  done-admitted (made-1 f) e = absurd (omega arith)
-  done-admitted (made-2 l f) e = absurd (omega arith)
-  done-admitted (made-3 l u s f) e = absurd (omega arith)
-  done-admitted (made-4 l u s a f) e = absurd (omega arith)
-  done-admitted (made-6 l u s a v f) e = absurd (omega arith)
-  done-admitted (made-0 l u s a v _ _ h) e = (u, s, a, v)
-
   -- A refusal answers FALSE and leaves the table as it was found.
   pub refused-changes-nothing : {k id : ℕ} {memo : List ℕ} {st′ : Store} {index′ memo′ : List ℕ} → Makes lent known kind want st index memo k id st′ index′ memo′ → (k ≡ done → ⊥) → (id ≡ FALSE) × (st′ ≡ st) × (index′ ≡ index)
   refused-changes-nothing (made-1 f) e = (refl, refl, refl)
@@ -101,6 +95,25 @@ module _ (t : Table) (z : Sound t) (v : ℕ) (hv : v < firstBoolean) (id : ℕ) 
   pub empty-answer-once : (m m′ : Reading → Bool) → EmptyAnswer t v id m → EmptyAnswer t v id m′ → (ρ : Reading) → m ρ ≡ m′ ρ
   empty-answer-once m m′ h h′ ρ = ⊎-elim (λ s. h ρ .1 s ∙ sym (h′ ρ .1 s)) (λ c. let f = not-steady t v ρ id c in h ρ .0 f ∙ sym (h′ ρ .0 f)) (steady-or-changing t z v hv id k ρ)
 
+-- and one function of tables and readings has it from every sound table.
+pub empty-answers-exist : (v : ℕ) → v < firstBoolean → (id : ℕ) → (m : Table → Reading → Bool) × ((t : Table) → Sound t → Known t id → EmptyAnswer t v id (m t))
+empty-answers-exist v hv id = (m, λ t z k ρ. as-asked t z k ρ (empty-answer-exists t z v hv id k))
+  where
+    -- bounds that are empty
+    none : Bound
+    none = Excludes (pos 0)
+
+    keyed : Keyed none
+    keyed = (leZ-yes tt, leZ-yes tt)
+
+    m : Table → Reading → Bool
+    m t ρ = let out = narrow t v none none id in says (out .0) ρ (out .1)
+
+    as-asked : (t : Table) → Sound t → Known t id → (ρ : Reading) → (x : Reading → Bool) × EmptyAnswer t v id x → ((Steady t v ρ id → ⊥) → m t ρ ≡ false) × (Steady t v ρ id → m t ρ ≡ says t ρ id)
+    as-asked t z k ρ x =
+        let y = narrow-empty-answers t z id k v hv none none keyed keyed (empty-exactly none none keyed keyed .0 refl) (x .0) (x .1) in
+        (λ f. y .right .means ρ ∙ (x .1) ρ .0 f, λ s. y .right .means ρ ∙ (x .1) ρ .1 s)
+
 -- The operations are right.
 from-range-right : (v : ℕ) (lower upper : Bound) → Keyed lower → Keyed upper → AnswersAlways (λ u. Unit {0}) (v < firstBoolean) (λ t. from-range t v lower upper) (λ t ρ. inside lower upper (ρ .place v))
 from-range-right v lower upper kl ku t z a h = from-range-answers t z v h lower upper kl ku
@@ -123,10 +136,6 @@ restrict-right id v value b t z a h = restrict-answers t z id a v b h value
 restrict-range-right : (id v : ℕ) (value : Bool) → v < firstBoolean → AnswersAlways (λ u. KnownTo u id) (v < variables) (λ t. restrict t v value id) (λ t ρ. says t ρ id)
 restrict-range-right id v value b t z a h = rw (restrict-range t z id a v b value) (record { right = record { sound = z; continues = same; known = a; means = λ ρ. refl }; reached = λ r l m. absurd (omega arith) })
 
--- what the table and the id that narrowing makes say
-abbrev emptied : ℕ → ℕ → Bound → Bound → Table → Reading → Bool
-emptied id v lower upper t ρ = says ((narrow t v lower upper id) .0) ρ ((narrow t v lower upper id) .1)
-
 module _ (id v : ℕ) (lower upper : Bound) (kl : Keyed lower) (ku : Keyed upper) where
   narrow-right : (near : Reading → Reading) → ((ρ : Reading) → AtNearest v lower upper ρ (near ρ))
       → AnswersAlways (λ u. KnownTo u id) (v < firstBoolean) (λ t. narrow t v lower upper id) (λ t ρ. says t (near ρ) id)
@@ -135,21 +144,9 @@ module _ (id v : ℕ) (lower upper : Bound) (kl : Keyed lower) (ku : Keyed upper
   widen-right : AnswersAlways (λ u. KnownTo u id) (v < firstBoolean) (λ t. widen t v lower upper id) (λ t ρ. says t ρ id && inside lower upper (ρ .place v))
   widen-right t z a h = widen-answers t z id a v h lower upper kl ku
 
-  -- where the bounds are empty, what narrowing makes says what is asked
-  module _ (e : Empty lower upper) where
-    emptied-as-asked : (t : Table) → Sound t → KnownTo (length t) id → v < firstBoolean → EmptyAnswer t v id (emptied id v lower upper t)
-    emptied-as-asked t z a h =
-        let m = empty-answer-exists t z v h id a in
-        let x = narrow-empty-answers t z id a v h lower upper kl ku e (m .0) (m .1) in
-        λ ρ. (λ c. x .right .means ρ ∙ (m .1) ρ .0 c, λ s. x .right .means ρ ∙ (m .1) ρ .1 s)
-
-    emptied-here : (st : Store) (index : List ℕ) (u : ℕ) → SoundLent st index u → KnownTo u id → v < firstBoolean
-        → EmptyAnswer (held st u) v id (emptied id v lower upper (held st u))
-    emptied-here st index u s a h =
-        emptied-as-asked (held st u) (holds-a-sound-table st index u s) (subst (λ (n : ℕ). KnownTo n id) (sym ((counts-what-is-held st index u s) .0)) a) h
-
-    narrow-empty-right : AnswersAlways (λ u. KnownTo u id) (v < firstBoolean) (λ t. narrow t v lower upper id) (emptied id v lower upper)
-    narrow-empty-right t z a h = narrow-empty-answers t z id a v h lower upper kl ku e (emptied id v lower upper t) (emptied-as-asked t z a h)
+  narrow-empty-right : Empty lower upper → (m : Table → Reading → Bool) → ((t : Table) → Sound t → Known t id → EmptyAnswer t v id (m t))
+      → AnswersAlways (λ u. KnownTo u id) (v < firstBoolean) (λ t. narrow t v lower upper id) m
+  narrow-empty-right e m asked t z a h = narrow-empty-answers t z id a v h lower upper kl ku e (m t) (asked t z a)
 
 -- The calls that may add nodes: what the id says beside 0, and that 0 or 6 is told by whether there is room.
 module _ (st : Store) (index : List ℕ) where
@@ -220,23 +217,13 @@ module _ (st : Store) (index : List ℕ) where
 
       -- "with empty bounds the answer is FALSE wherever, the earlier variables being fixed, the old answer still changes with the chosen
       -- one; elsewhere it is the old answer".
-      pub narrow-empty-answered : Empty lower upper → Narrows st index memo id v lower upper k to st′ index′ memo′ → k ≡ done → EmptyAnswered id v st index to st′ index′
-      narrow-empty-answered e o d =
-          let x = answered _ _ _ _ _ (narrow-empty-right id v lower upper kl ku e) st index memo o d in
-          let y = done-admitted _ _ _ _ st index o d in
-          record {
-            m = emptied id v lower upper (held st (x .before));
-            answered = record { before = x .before; found = x .found; after = x .after; left = x .left; answers = x .answers };
-            empties = emptied-here id v lower upper kl ku e st index (x .before) (x .found) (subst (λ (u : ℕ). KnownTo u id) (sound-once st index (y .0) (x .before) (y .1) (x .found)) (y .2)) (y .3);
-          }
+      pub narrow-empty-answered : Empty lower upper → (m : Table → Reading → Bool) → ((t : Table) → Sound t → Known t id → EmptyAnswer t v id (m t))
+          → Narrows st index memo id v lower upper k to st′ index′ memo′ → k ≡ done → Answered m st index to st′ index′
+      narrow-empty-answered e m asked o = answered _ _ _ _ _ (narrow-empty-right id v lower upper kl ku e m asked) st index memo o
 
-      pub narrow-empty-room : Empty lower upper → Narrows st index memo id v lower upper k to st′ index′ memo′ → Lending st index memo → (u : ℕ) → SoundLent st index u → KnownTo u id → v < firstBoolean
-          → EmptyDoneOrNoRoom id v st u k
-      narrow-empty-room e o l u s a h = record {
-        m = emptied id v lower upper (held st u);
-        empties = emptied-here id v lower upper kl ku e st index u s a h;
-        told = done-or-no-room _ _ _ _ _ (narrow-empty-right id v lower upper kl ku e) st index memo o l u s a h;
-      }
+      pub narrow-empty-room : Empty lower upper → (m : Table → Reading → Bool) → ((t : Table) → Sound t → Known t id → EmptyAnswer t v id (m t))
+          → Narrows st index memo id v lower upper k to st′ index′ memo′ → Lending st index memo → (u : ℕ) → SoundLent st index u → KnownTo u id → v < firstBoolean → DoneOrNoRoom m st u k
+      narrow-empty-room e m asked o l u s a h = done-or-no-room _ _ _ _ _ (narrow-empty-right id v lower upper kl ku e m asked) st index memo o l u s a h
 
       -- Widening: "old answer and inside the bounds".
       pub widen-answered : Widens st index memo id v lower upper k to st′ index′ memo′ → k ≡ done → Answered (λ s ρ. says s ρ id && inside lower upper (ρ .place v)) st index to st′ index′

@@ -10,7 +10,6 @@ use lib.IntN.{ℤ}
 use Rattle.diagram.specs.Table.{Table}
 use Rattle.diagram.specs.Reading.{Reading}
 use Rattle.algebra.specs.Answering.{Answers, Answerable}
-use Rattle.algebra.specs.Narrowing.{EmptyAnswer}
 use Rattle.table.specs.Layout.{room, Store}
 use Rattle.table.specs.Lent.{SoundLent}
 use Rattle.table.specs.Held.{held}
@@ -33,16 +32,3 @@ HasRoom m st u = Answerable (room (st .nodes)) (length (st .children)) (held st 
 -- The number is 0 where there is one, and 6 where there is none.
 abbrev pub DoneOrNoRoom : (Table → Reading → Bool) → Store → ℕ → ℕ → Type 0
 DoneOrNoRoom m st u k = ((k ≡ done) × HasRoom m st u) ⊎ ((k ≡ noRoom) × (HasRoom m st u → ⊥))
-
--- Narrowing of an id by empty bounds for variable v, done: m is FALSE wherever, the earlier variables being fixed, the old answer still
--- changes with v, and elsewhere it is the old answer. There is one such m (`empty-answer-exists`, `empty-answer-once`).
-pub record EmptyAnswered (id v : ℕ) (st : Store) (index : List ℕ) (to : ℕ) (st′ : Store) (index′ : List ℕ) : Type 0 where
-  pub m : Reading → Bool
-  pub answered : Answered (λ s. m) st index to st′ index′
-  pub empties : EmptyAnswer (held st (answered .before)) v id m
-
--- And its number, 0 or 6, is told by whether there is room for it.
-pub record EmptyDoneOrNoRoom (id v : ℕ) (st : Store) (u k : ℕ) : Type 0 where
-  pub m : Reading → Bool
-  pub empties : EmptyAnswer (held st u) v id m
-  pub told : DoneOrNoRoom (λ s. m) st u k

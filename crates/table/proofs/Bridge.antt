@@ -21,7 +21,6 @@ use Rattle.table.specs.Checking.{below, Climbs}
 use Rattle.diagram.proofs.Lookup as lookup
 use Rattle.diagram.proofs.Numbered.{run-shift}
 use Rattle.diagram.proofs.Readings.{range-top, bool-top}
-use Rattle.diagram.proofs.Lookup.{end}
 use Rattle.table.proofs.Laws as laws
 use Rattle.table.proofs.CutPositions.{climbs}
 use Rattle.table.proofs.Scan.{table-length}
@@ -159,7 +158,7 @@ module _ (st : Store) where
       go (yes q) rec = ap (λ (j : ℕ). at (nodeAt st n ∷ held st n) (suc j)) (q ∙ sym e) ∙ (lookup.at-new (nodeAt st n) (held st n) ∙ ap (nodeAt st) (sym q))
       go (no q) rec = lookup.at-old (nodeAt st n) (held st n) (suc i) (omega (arith, e)) ∙ rec (omega arith)
 
-  at-zero : (n : ℕ) → at (held st n) 0 ≡ end
+  at-zero : (n : ℕ) → at (held st n) 0 ≡ lookup.end
   unfolding held at
   at-zero zero = refl
   at-zero (suc n) = lookup.at-old (nodeAt st n) (held st n) 0 (omega arith) ∙ at-zero n
