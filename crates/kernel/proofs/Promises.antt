@@ -37,12 +37,9 @@ use Rattle.kernel.specs.Makes.{Makes, made-1, made-2, made-3, made-4, ma
 use Rattle.kernel.specs.Meaning.{Answered, HasRoom, DoneOrNoRoom}
 use Rattle.kernel.proofs.Once.{leaves-fits, makes-once}
 
--- An operation that is right: from every sound table that knows its ids it answers with m, which says of each reading yes or no.
-abbrev pub AnswersAlways : (ℕ → Type 0) → Type 0 → (Table → Table × ℕ) → (Table → Reading → Bool) → Type 0
-AnswersAlways known kind want m = (t : Table) → Sound t → known (length t) → kind → Answers t (m t) (want t)
-
-module _ (lent : Type 0) (known : ℕ → Type 0) (kind : Type 0) (want : Table → Table × ℕ) (m : Table → Reading → Bool) (right : AnswersAlways known kind want m)
-    (st : Store) (index memo : List ℕ) where
+-- Of an operation that is right: from every sound table that knows its ids it answers with m, which says of each reading yes or no.
+module _ (lent : Type 0) (known : ℕ → Type 0) (kind : Type 0) (want : Table → Table × ℕ) (m : Table → Reading → Bool)
+    (right : (t : Table) → Sound t → known (length t) → kind → Answers t (m t) (want t)) (st : Store) (index memo : List ℕ) where
   abbrev Out : ℕ → ℕ → Store → List ℕ → List ℕ → Type 0
   Out k id st′ index′ memo′ = Makes lent known kind want st index memo k id st′ index′ memo′
 
@@ -115,6 +112,9 @@ empty-answers-exist v hv id = (m, λ t z k ρ. as-asked t z k ρ (empty-answer-e
         (λ f. y .right .means ρ ∙ (x .1) ρ .0 f, λ s. y .right .means ρ ∙ (x .1) ρ .1 s)
 
 -- The operations are right.
+abbrev AnswersAlways : (ℕ → Type 0) → Type 0 → (Table → Table × ℕ) → (Table → Reading → Bool) → Type 0
+AnswersAlways known kind want m = (t : Table) → Sound t → known (length t) → kind → Answers t (m t) (want t)
+
 from-range-right : (v : ℕ) (lower upper : Bound) → Keyed lower → Keyed upper → AnswersAlways (λ u. Unit {0}) (v < firstBoolean) (λ t. from-range t v lower upper) (λ t ρ. inside lower upper (ρ .place v))
 from-range-right v lower upper kl ku t z a h = from-range-answers t z v h lower upper kl ku
 
