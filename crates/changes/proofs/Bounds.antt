@@ -15,6 +15,7 @@ use Rattle.ranges.specs.declared.bounds.Bound.{Bound}
 use Rattle.ranges.specs.declared.bounds.Bound.the-variants.{Open}
 use Rattle.ranges.specs.declared.spans.Range.{Range}
 use Rattle.ranges.proofs.Positions.{empty-positions}
+use Rattle.ranges.proofs.Nearest.{empty-exactly}
 use Rattle.diagram.specs.Table.{variables, firstBoolean, topOf, Table}
 use Rattle.diagram.specs.Sound.{Known}
 use Rattle.algebra.specs.Changing.{change, emptied, narrowed, narrow, widened, widen}
@@ -63,4 +64,4 @@ module _ {h : Used} {st : Store} {index : List ℕ} (l : Lent h st index) (v id 
 
   -- "Empty bounds give FALSE."
   pub widen-none : {lower upper : Bound} {r : Range} → Bounded lower upper r → Keyed lower → Keyed upper → r .last < r .first → widen t v lower upper id ≡ (t, FALSE)
-  widen-none {lower} {upper} {r} b kl ku none = widen-empty t (lent-sound l) v hv id known lower upper (empty-is b kl ku ∙ lt-ltb (r .last) (r .first) none)
+  widen-none {lower} {upper} {r} b kl ku none = widen-empty t (lent-sound l) v hv id known lower upper kl ku (empty-exactly lower upper kl ku .0 (empty-is b kl ku ∙ lt-ltb (r .last) (r .first) none))

@@ -34,11 +34,12 @@ use Rattle.table.specs.Told.{done, Allowed}
 use Rattle.table.proofs.Once.{sound-once}
 use Rattle.table.proofs.Promises.{holds-a-sound-table, counts-what-is-held}
 use Rattle.kernel.specs.Makes.{Makes, made-1, made-2, made-3, made-4, made-6, made-0, BothKeyed, BothKnown, FromRange, Compares, FromBool, Lending, WithMemo, Ands, Ors, Restricts, Narrows, Widens, Disjoints, disjoint-1, disjoint-2, disjoint-3, disjoint-0}
-use Rattle.kernel.specs.Meaning.{AnswersAlways, Answered, HasRoom, DoneOrNoRoom}
+use Rattle.kernel.specs.Meaning.{Answered, HasRoom, DoneOrNoRoom}
 use Rattle.kernel.proofs.Once.{leaves-fits, makes-once}
 
-module _ (lent : Type 0) (known : ℕ → Type 0) (kind : Type 0) (want : Table → Table × ℕ) (m : Table → Reading → Bool) (right : AnswersAlways known kind want m)
-    (st : Store) (index memo : List ℕ) where
+-- Of an operation that is right: from every sound table that knows its ids it answers with m, which says of each reading yes or no.
+module _ (lent : Type 0) (known : ℕ → Type 0) (kind : Type 0) (want : Table → Table × ℕ) (m : Table → Reading → Bool)
+    (right : (t : Table) → Sound t → known (length t) → kind → Answers t (m t) (want t)) (st : Store) (index memo : List ℕ) where
   abbrev Out : ℕ → ℕ → Store → List ℕ → List ℕ → Type 0
   Out k id st′ index′ memo′ = Makes lent known kind want st index memo k id st′ index′ memo′
 
@@ -120,6 +121,9 @@ empty-answers-exist v hv id = (m, λ t z k ρ. as-asked t z k ρ (empty-answer-e
         (λ f. y .right .means ρ ∙ (x .1) ρ .0 f, λ s. y .right .means ρ ∙ (x .1) ρ .1 s)
 
 -- The operations are right.
+abbrev AnswersAlways : (ℕ → Type 0) → Type 0 → (Table → Table × ℕ) → (Table → Reading → Bool) → Type 0
+AnswersAlways known kind want m = (t : Table) → Sound t → known (length t) → kind → Answers t (m t) (want t)
+
 from-range-right : (v : ℕ) (lower upper : Bound) → BothKeyed lower upper → AnswersAlways (λ u. Unit {0}) (v < firstBoolean) (λ t. from-range t v lower upper) (λ t ρ. inside lower upper (ρ .place v))
 from-range-right v lower upper keys t z a h = from-range-answers t z v h lower upper (keys .0) (keys .1)
 

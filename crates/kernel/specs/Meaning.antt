@@ -8,7 +8,6 @@ use Prim.Native.Nat.{ℕ}
 use lib.ListN.{length}
 use lib.IntN.{ℤ}
 use Rattle.diagram.specs.Table.{Table}
-use Rattle.diagram.specs.Sound.{Sound}
 use Rattle.diagram.specs.Reading.{Reading}
 use Rattle.algebra.specs.Answering.{Answers, Answerable}
 use Rattle.table.specs.Layout.{room, Store}
@@ -16,11 +15,6 @@ use Rattle.table.specs.Lent.{SoundLent}
 use Rattle.table.specs.Held.{held}
 use Rattle.table.specs.Told.{done}
 use Rattle.kernel.specs.Makes.{noRoom}
-
--- "Gives exactly the asked condition": from every sound table that knows the ids, with a variable of the kind that is asked, what an
--- operation makes answers with m, which says of each reading yes or no.
-abbrev pub AnswersAlways : (ℕ → Type 0) → Type 0 → (Table → Table × ℕ) → (Table → Reading → Bool) → Type 0
-AnswersAlways known kind want m = (t : Table) → Sound t → known (length t) → kind → Answers t (m t) (want t)
 
 -- Done: the words before the call and those after it are sound tables, and the one after it, with the id, answers from the one before it.
 -- So it continues it, the id says under every reading what m says, and each node that was added is reached from the id.
