@@ -46,9 +46,6 @@ module _ {st : Store} {index : List ℕ} {u : ℕ} (s : SoundLent st index u) wh
   into-held : (id : ℕ) → KnownTo u id → Known (held st u) id
   into-held id k = omega (arith, counted)
 
-  out-of-held : (id : ℕ) → Known (held st u) id → KnownTo u id
-  out-of-held id k = omega (arith, counted)
-
 -- A lent table that the check takes: it tells 0, with u nodes and e edges used.
 module _ {st : Store} {index : List ℕ} {u e : ℕ} (c : Checks st index done u e) where
   taken : SoundLent st index u
@@ -156,10 +153,13 @@ module _ (t : Table) (z : Sound t) where
       nowhere i = let x = empty-answer-exists t z v h id a in (x .0, (λ ρ σ n. absurd (never i ρ σ n), λ f. x .1))
 
       somewhere : ((ρ : Reading) → (σ : Reading) × AtNearest v lower upper ρ σ) → (m : Reading → Bool) × Asks (narrowing-of id v lower upper) t m
-      somewhere f =
-          (λ ρ. says t (f ρ .0) id,
-          (λ ρ σ n. nearest-says-once v h lower upper (keys .0) (keys .1) t id ρ (f ρ .0) σ (f ρ .1) n,
-          λ i. absurd (let ρ = everywhere lowest (leZ-yes tt, leZ-yes tt) in never i ρ (f ρ .0) (f ρ .1))))
+      somewhere f = (
+        λ ρ. says t (f ρ .0) id,
+        (
+          λ ρ σ n. nearest-says-once v h lower upper (keys .0) (keys .1) t id ρ (f ρ .0) σ (f ρ .1) n,
+          λ i. absurd (let ρ = everywhere lowest (leZ-yes tt, leZ-yes tt) in never i ρ (f ρ .0) (f ρ .1)),
+        ),
+      )
   something-is-asked (widening-of id v lower upper) keys a h = (λ ρ. says t ρ id && inside lower upper (ρ .place v), λ ρ. refl)
 
 -- what is known to the words is known to the table that they hold
@@ -169,13 +169,9 @@ knows q s a = subst (KnownFor q) (sym (counted s)) a
 -- The table of lent words that answer is one that answers within the room.
 answerable : {m : Reading → Bool} {st : Store} {index : List ℕ} {u : ℕ} → LentAnswer m st index u → Answerable (room (st .nodes)) (length (st .children)) (held st u) m
 answerable l = record {
-  table = held (l .words) (l .used);
-  sound = holds-a-sound-table (l .words) (l .links) (l .used) (l .sound);
-  continues = l .continues;
+  out = (held (l .words) (l .used), l .id);
+  right = l .right;
   fits = rw (sym (l .long), sym (l .wide)) (fits-its-room (l .words) (l .links) (l .used) (l .sound));
-  id = l .id;
-  known = into-held (l .sound) (l .id) (l .known);
-  means = l .means;
 }
 
 -- The words that a call leaves beside 0 answer.
@@ -191,10 +187,8 @@ left-answer {m} {st} {u = u} {out} {st′} {index′} x h =
       indexed = h .indexed;
       used = h .used;
       sound = h .sound;
-      continues = y .right .continues;
       id = out .1;
-      known = out-of-held (h .sound) (out .1) (y .right .known);
-      means = y .right .means;
+      right = y .right;
     }
 
 -- Any call that may add nodes, whatever is asked, on words that are a sound table of u nodes.

@@ -13,8 +13,8 @@ use Rattle.ranges.specs.Comparing.{compares}
 use Rattle.ranges.specs.declared.bounds.Bound.{Bound}
 use Rattle.ranges.specs.declared.bounds.Comparison.{Comparison}
 use Rattle.diagram.specs.Table.{firstBoolean, variables, Table}
-use Rattle.diagram.specs.Sound.{Continues}
 use Rattle.diagram.specs.Reading.{Reading, says, switched}
+use Rattle.algebra.specs.Answering.{Right}
 use Rattle.algebra.specs.Narrowing.{AtNearest, EmptyAnswer}
 use Rattle.table.specs.Layout.{Store}
 use Rattle.table.specs.Lent.{SoundLent}
@@ -102,10 +102,8 @@ pub record LentAnswer (m : Reading → Bool) (st : Store) (index : List ℕ) (u 
   pub indexed : length links ≡ length index
   pub used : ℕ
   pub sound : SoundLent words links used
-  pub continues : Continues (held st u) (held words used)
   pub id : ℕ
-  pub known : KnownTo used id
-  pub means : (ρ : Reading) → says (held words used) ρ id ≡ m ρ
+  pub right : Right (held st u) m (held words used, id)
 
 -- The number is 0 where there are such words, and 6 where there are none.
 abbrev pub DoneOrNoLentRoom : (Reading → Bool) → Store → List ℕ → ℕ → ℕ → Type 0
