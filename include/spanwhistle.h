@@ -1,7 +1,7 @@
 /*
  * Spanwhistle: compares the conditions of correction rules exactly. This header is for C99 and C++; link target/staticlib/libspanwhistle.a,
  * which `rt staticlib spanwhistle` makes, or `tools/install` with a pkg-config file. The archive needs memcpy and memset and nothing else. It
- * has 28 KB of code and constants, if all calls are linked, and no data (28,149, 0 and 0 bytes of text, data and bss by `size`, x86-64).
+ * has 29 KB of code and constants, if all calls are linked, and no data (28,726, 0 and 0 bytes of text, data and bss by `size`, x86-64).
  *
  * WHAT A TABLE IS
  *
@@ -55,14 +55,14 @@
  * nothing (spanwhistle_check, spanwhistle_evaluate, spanwhistle_is_disjoint) on the same table too.
  *
  * Calls that walk down a table call themselves, once for each variable on the way, and most of them with an array of 64 edges each time
- * (`and` and `or` at range variables alone). They need a deep stack. Enough in our deepest test were 92,504 bytes for `restrict`, 83,384
+ * (`and` and `or` at range variables alone). They need a deep stack. Enough in our deepest test were 91,544 bytes for `restrict`, 83,432
  * for `and` and `or`, 53,112 for `widen`, 48,968 for `narrow`, 11,336 for `is_disjoint`, 2,616 for a condition and 400 for the rest. The
  * test is examples/stack.c: conditions over all 64 variables, on x86-64 with this project's compiler. It is measured and not proved, and
  * another machine has other figures. SPANWHISTLE_STACK_JOIN and the like are these, rounded up. Conditions that test fewer variables take less:
  *
  *     variables         2       4       8      16      32      64
- *     and, or       3,800   7,736  15,608  31,352  62,840  83,384
- *     restrict      4,216   7,064  12,760  24,152  46,936  92,504
+ *     and, or       3,848   7,784  15,656  31,400  62,888  83,432
+ *     restrict      4,248   7,064  12,696  23,960  46,488  91,544
  *     narrow        4,328   7,208  12,968  24,488  47,528  48,968
  *     widen         8,472  11,352  17,112  28,632  51,672  53,112
  *     is_disjoint     424     776   1,480   2,888   5,704  11,336

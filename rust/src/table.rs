@@ -18,7 +18,7 @@ use core::ops::RangeBounds;
 /// keep a checksum or a signature beside the table. A refused call leaves the four slices as they were. Calls that take a `memo` use it as scratch: three words a node of the room, whatever they hold, all zero
 /// after a call that was done or found no room.
 ///
-/// Calls that walk down a table need a deep stack, `restrict` up to 92,504 bytes in our deepest test: include/spanwhistle.h has the
+/// Calls that walk down a table need a deep stack, `restrict` up to 91,544 bytes in our deepest test: include/spanwhistle.h has the
 /// figures, by the number of variables, and what they are worth.
 ///
 /// ```
