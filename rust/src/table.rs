@@ -176,6 +176,9 @@ impl<'a> Table<'a> {
 
     /// The condition that both hold. It is FALSE exactly when the two are apart, x exactly when x never holds without y.
     ///
+    /// The memo has one entry a node of the room, and entries overwrite one another: on tables built for it this call can take seconds, and
+    /// the others that take a memo may.
+    ///
     /// # Errors
     ///
     /// `BadLength` (also of the memo), `NotSound`, `UnknownId`, `NoRoom`. `NoRoom` is never told where the answer is FALSE, x or y, since

@@ -34,7 +34,7 @@ use Rattle.table.proofs.Once.{sound-once}
 use Rattle.table.proofs.Promises.{holds-a-sound-table, fits-its-room, counts-what-is-held}
 use Rattle.kernel.specs.Makes.{Leaves, Makes, made-1, made-2, made-3, made-4, made-6, made-0, BothKeyed}
 use Rattle.algebra.specs.Narrowing.{AtNearest}
-use Rattle.kernel.specs.Requests.{Request, range-of, comparison-of, boolean-of, both-of, either-of, restriction-of, narrowing-of, widening-of, Comes, LentFor, KnownFor, KindFor, Asks, LentAnswer, DoneOrNoLentRoom}
+use Rattle.kernel.specs.Calls.{Call, range-of, comparison-of, boolean-of, both-of, either-of, restriction-of, narrowing-of, widening-of, Comes, LentFor, KnownFor, KindFor, Asks, LentAnswer, DoneOrNoLentRoom}
 use Rattle.kernel.proofs.Admitted.{check-lends}
 use Rattle.kernel.proofs.Promises.{empty-answer-exists}
 
@@ -60,8 +60,8 @@ module _ {st : Store} {index : List ℕ} {u e : ℕ} (c : Checks st index done u
       → (rs ss : List ℕ) → Reached (diagramOf (held st u)) a rs → Reached d c ss → (length rs ≤ length ss) × (edges (diagramOf (held st u)) rs ≤ edges d ss)
   fewest-nodes-and-edges a ka = no-smaller-diagram (held st u) (holds-a-sound-table st index u taken) a (into-held taken a ka)
 
--- The keys of a request, and the table and the id that its operation makes.
-abbrev KeysFor : Request → Type 0
+-- The keys of a call, and the table and the id that its operation makes.
+abbrev KeysFor : Call → Type 0
 KeysFor (range-of v lower upper) = BothKeyed lower upper
 KeysFor (comparison-of v op key) = Key key
 KeysFor (boolean-of v) = Unit {0}
@@ -71,7 +71,7 @@ KeysFor (restriction-of id v value) = Unit {0}
 KeysFor (narrowing-of id v lower upper) = BothKeyed lower upper
 KeysFor (widening-of id v lower upper) = BothKeyed lower upper
 
-abbrev wantFor : Request → Table → Table × ℕ
+abbrev wantFor : Call → Table → Table × ℕ
 wantFor (range-of v lower upper) t = from-range t v lower upper
 wantFor (comparison-of v op key) t = comparison t v op key
 wantFor (boolean-of v) t = from-bool t v
@@ -81,14 +81,14 @@ wantFor (restriction-of id v value) t = restrict t v value id
 wantFor (narrowing-of id v lower upper) t = narrow t v lower upper id
 wantFor (widening-of id v lower upper) t = widen t v lower upper id
 
--- What comes of a request, as one definition has it for all calls.
-record Coming (q : Request) (st : Store) (index memo : List ℕ) (k id : ℕ) (st′ : Store) (index′ : List ℕ) : Type 0 where
+-- What comes of a call, as one definition has it for all calls.
+record Coming (q : Call) (st : Store) (index memo : List ℕ) (k id : ℕ) (st′ : Store) (index′ : List ℕ) : Type 0 where
   keys : KeysFor q
   scratch : List ℕ
   scratch′ : List ℕ
   outcome : Makes (LentFor q st index memo) (KnownFor q) (KindFor q) (wantFor q) st index scratch k id st′ index′ scratch′
 
-coming : (q : Request) (st : Store) (index memo : List ℕ) {k id : ℕ} {st′ : Store} {index′ : List ℕ} (memo′ : List ℕ) → Comes q st index memo k id st′ index′ memo′ → Coming q st index memo k id st′ index′
+coming : (q : Call) (st : Store) (index memo : List ℕ) {k id : ℕ} {st′ : Store} {index′ : List ℕ} (memo′ : List ℕ) → Comes q st index memo k id st′ index′ memo′ → Coming q st index memo k id st′ index′
 coming (range-of v lower upper) st index memo memo′ o = record { keys = o .0; scratch = []; scratch′ = []; outcome = o .1 }
 coming (comparison-of v op key) st index memo memo′ o = record { keys = o .0; scratch = []; scratch′ = []; outcome = o .1 }
 coming (boolean-of v) st index memo memo′ o = record { keys = tt; scratch = []; scratch′ = []; outcome = o }
@@ -107,7 +107,7 @@ answers-as x e = record {
 
 -- Each operation makes what is asked,
 module _ (t : Table) (z : Sound t) where
-  makes-what-is-asked : (q : Request) → KeysFor q → KnownFor q (length t) → KindFor q → (m : Reading → Bool) → Asks q t m → Answers t m (wantFor q t)
+  makes-what-is-asked : (q : Call) → KeysFor q → KnownFor q (length t) → KindFor q → (m : Reading → Bool) → Asks q t m → Answers t m (wantFor q t)
   makes-what-is-asked (range-of v lower upper) keys a h m e = answers-as (from-range-answers t z v h lower upper (keys .0) (keys .1)) e
   makes-what-is-asked (comparison-of v op key) keys a h m e = answers-as (comparison-answers t z v h op key keys) e
   makes-what-is-asked (boolean-of v) keys a h m e = answers-as (from-bool-answers t z v (h .0) (h .1)) e
@@ -130,7 +130,7 @@ module _ (t : Table) (z : Sound t) where
   makes-what-is-asked (widening-of id v lower upper) keys a h m e = answers-as (widen-answers t z id a v h lower upper (keys .0) (keys .1)) e
 
   -- and something is asked.
-  something-is-asked : (q : Request) → KeysFor q → KnownFor q (length t) → KindFor q → (m : Reading → Bool) × Asks q t m
+  something-is-asked : (q : Call) → KeysFor q → KnownFor q (length t) → KindFor q → (m : Reading → Bool) × Asks q t m
   something-is-asked (range-of v lower upper) keys a h = (λ ρ. inside lower upper (ρ .place v), λ ρ. refl)
   something-is-asked (comparison-of v op key) keys a h = (λ ρ. compares op key (ρ .place v), λ ρ. refl)
   something-is-asked (boolean-of v) keys a h = (λ ρ. ρ .holds v, λ ρ. refl)
@@ -163,7 +163,7 @@ module _ (t : Table) (z : Sound t) where
   something-is-asked (widening-of id v lower upper) keys a h = (λ ρ. says t ρ id && inside lower upper (ρ .place v), λ ρ. refl)
 
 -- what is known to the words is known to the table that they hold
-knows : (q : Request) {st : Store} {index : List ℕ} {u : ℕ} → SoundLent st index u → KnownFor q u → KnownFor q (length (held st u))
+knows : (q : Call) {st : Store} {index : List ℕ} {u : ℕ} → SoundLent st index u → KnownFor q u → KnownFor q (length (held st u))
 knows q s a = subst (KnownFor q) (sym (counted s)) a
 
 -- The table of lent words that answer is one that answers within the room.
@@ -192,7 +192,7 @@ left-answer {m} {st} {u = u} {out} {st′} {index′} x h =
     }
 
 -- Any call that may add nodes, whatever is asked, on words that are a sound table of u nodes.
-module _ (q : Request) (st : Store) (index memo : List ℕ) (k id : ℕ) (st′ : Store) (index′ memo′ : List ℕ) (o : Comes q st index memo k id st′ index′ memo′) (u : ℕ) (s : SoundLent st index u) where
+module _ (q : Call) (st : Store) (index memo : List ℕ) (k id : ℕ) (st′ : Store) (index′ memo′ : List ℕ) (o : Comes q st index memo k id st′ index′ memo′) (u : ℕ) (s : SoundLent st index u) where
   came : Coming q st index memo k id st′ index′
   came = coming q st index memo memo′ o
 
@@ -205,8 +205,8 @@ module _ (q : Request) (st : Store) (index memo : List ℕ) (k id : ℕ) (st′ 
 
   -- After the call, whatever number it tells, the words are a sound table, and each id that was known before is known and says under every
   -- reading what it said before.
-  pub older-ids-say-the-same : (u′ : ℕ) × SoundLent st′ index′ u′ × ((a : ℕ) → KnownTo u a → KnownTo u′ a × ((ρ : Reading) → says (held st′ u′) ρ a ≡ says (held st u) ρ a))
-  older-ids-say-the-same = go (came .outcome)
+  pub call-keeps-older-ids : (u′ : ℕ) × SoundLent st′ index′ u′ × ((a : ℕ) → KnownTo u a → KnownTo u′ a × ((ρ : Reading) → says (held st′ u′) ρ a ≡ says (held st u) ρ a))
+  call-keeps-older-ids = go (came .outcome)
     where
       Kept : Store → List ℕ → Type 0
       Kept st″ index″ = (u′ : ℕ) × SoundLent st″ index″ u′ × ((a : ℕ) → KnownTo u a → KnownTo u′ a × ((ρ : Reading) → says (held st″ u′) ρ a ≡ says (held st u) ρ a))

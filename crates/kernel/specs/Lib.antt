@@ -1,5 +1,5 @@
 -- What each public call answers and leaves. Assumes nothing.
 pub mod Makes
 pub mod Meaning
-pub mod Requests
+pub mod Calls
 pub mod Admitting

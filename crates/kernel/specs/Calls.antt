@@ -23,18 +23,18 @@ use Rattle.table.specs.Told.{done, Allowed}
 use Rattle.kernel.specs.Makes.{noRoom, MemoOutcomes, BothKnown, FromRange, Compares, FromBool, Lending, Ands, Ors, Restricts, Narrows, Widens}
 
 -- What is asked: a condition, or an operation on ids.
-pub data Request : Type 0 where
-  range-of : (v : ℕ) (lower upper : Bound) → Request
-  comparison-of : (v : ℕ) (op : Comparison) (key : ℤ) → Request
-  boolean-of : (v : ℕ) → Request
-  both-of : (x y : ℕ) → Request
-  either-of : (x y : ℕ) → Request
-  restriction-of : (id v : ℕ) (value : Bool) → Request
-  narrowing-of : (id v : ℕ) (lower upper : Bound) → Request
-  widening-of : (id v : ℕ) (lower upper : Bound) → Request
+pub data Call : Type 0 where
+  range-of : (v : ℕ) (lower upper : Bound) → Call
+  comparison-of : (v : ℕ) (op : Comparison) (key : ℤ) → Call
+  boolean-of : (v : ℕ) → Call
+  both-of : (x y : ℕ) → Call
+  either-of : (x y : ℕ) → Call
+  restriction-of : (id v : ℕ) (value : Bool) → Call
+  narrowing-of : (id v : ℕ) (lower upper : Bound) → Call
+  widening-of : (id v : ℕ) (lower upper : Bound) → Call
 
 -- What comes of it, by the contract of its call. A condition is lent no memo.
-abbrev pub Comes : Request → Store → List ℕ → List ℕ → MemoOutcomes
+abbrev pub Comes : Call → Store → List ℕ → List ℕ → MemoOutcomes
 Comes (range-of v lower upper) st index memo number to st′ index′ memo′ = FromRange st index v lower upper number to st′ index′
 Comes (comparison-of v op key) st index memo number to st′ index′ memo′ = Compares st index v op key number to st′ index′
 Comes (boolean-of v) st index memo number to st′ index′ memo′ = FromBool st index v number to st′ index′
@@ -45,7 +45,7 @@ Comes (narrowing-of id v lower upper) st index memo number to st′ index′ mem
 Comes (widening-of id v lower upper) st index memo number to st′ index′ memo′ = Widens st index memo id v lower upper number to st′ index′ memo′
 
 -- What the checks 1, 3 and 4 ask: that the lengths are allowed,
-abbrev pub LentFor : Request → Store → List ℕ → List ℕ → Type 0
+abbrev pub LentFor : Call → Store → List ℕ → List ℕ → Type 0
 LentFor (range-of v lower upper) st index memo = Allowed st index
 LentFor (comparison-of v op key) st index memo = Allowed st index
 LentFor (boolean-of v) st index memo = Allowed st index
@@ -56,7 +56,7 @@ LentFor (narrowing-of id v lower upper) st index memo = Lending st index memo
 LentFor (widening-of id v lower upper) st index memo = Lending st index memo
 
 -- that its ids are known, where u nodes are used,
-abbrev pub KnownFor : Request → ℕ → Type 0
+abbrev pub KnownFor : Call → ℕ → Type 0
 KnownFor (range-of v lower upper) u = Unit {0}
 KnownFor (comparison-of v op key) u = Unit {0}
 KnownFor (boolean-of v) u = Unit {0}
@@ -67,7 +67,7 @@ KnownFor (narrowing-of id v lower upper) u = KnownTo u id
 KnownFor (widening-of id v lower upper) u = KnownTo u id
 
 -- and that its variable is of the kind that is asked.
-abbrev pub KindFor : Request → Type 0
+abbrev pub KindFor : Call → Type 0
 KindFor (range-of v lower upper) = v < firstBoolean
 KindFor (comparison-of v op key) = v < firstBoolean
 KindFor (boolean-of v) = (firstBoolean ≤ v) × (v < variables)
@@ -78,7 +78,7 @@ KindFor (narrowing-of id v lower upper) = v < firstBoolean
 KindFor (widening-of id v lower upper) = v < firstBoolean
 
 -- What document 01 asks of the answer from the table t, where m says of each reading yes or no: steps 3, 5, 7, 8 and 9.
-abbrev pub Asks : Request → Table → (Reading → Bool) → Type 0
+abbrev pub Asks : Call → Table → (Reading → Bool) → Type 0
 Asks (range-of v lower upper) t m = (ρ : Reading) → m ρ ≡ inside lower upper (ρ .place v)
 Asks (comparison-of v op key) t m = (ρ : Reading) → m ρ ≡ compares op key (ρ .place v)
 Asks (boolean-of v) t m = (ρ : Reading) → m ρ ≡ ρ .holds v
