@@ -20,8 +20,8 @@ use making::edges::Edge;
 use making::edges::Edges;
 use making::nodes::Made;
 use making::nodes::Used;
+use memo::recall;
 use table::limits::FIRST_BOOLEAN;
-use table::limits::RECORD_WORDS;
 use table::limits::VARIABLES;
 use views::child;
 use views::is_before;
@@ -29,7 +29,6 @@ use views::variable;
 use views::view_at;
 use views::view_of;
 use walks::finish::finish;
-use walks::memo::recall;
 use walks::steps::edge_of;
 
 // "Naming a range variable returns the id unchanged, as in the source."
@@ -38,7 +37,7 @@ pub fn restrict(
     children: &mut [u32],
     cuts: &mut [i64],
     index: &mut [u32],
-    memo: &mut [u32],
+    memo: &mut [u64],
     used: Used,
     id: NodeId,
     v: usize,
@@ -72,7 +71,7 @@ pub fn restrict_from(
     children: &mut [u32],
     cuts: &mut [i64],
     index: &mut [u32],
-    memo: &mut [u32],
+    memo: &mut [u64],
     used: Used,
     id: NodeId,
     v: usize,
@@ -93,7 +92,7 @@ pub fn restrict_from(
         };
     }
     // Only ids of earlier variables are looked up: the others need no walk. A change is of one id, and TRUE stands for the second.
-    let s = recall(memo, nodes.len() / RECORD_WORDS, id, NodeId::TRUE);
+    let s = recall(memo, id, NodeId::TRUE);
     if s.done {
         let id = s.id;
         return Made { ok: true, id, used };

@@ -14,11 +14,10 @@ use making::edges::Edges;
 use making::nodes::Made;
 use making::nodes::Used;
 use making::nodes::create_node;
+use memo::remember;
 use table::limits::FIRST_BOOLEAN;
-use table::limits::RECORD_WORDS;
 use views::View;
 use views::cut;
-use walks::memo::remember;
 
 // The edge whose turn it is where `left` of them are left: "ranges left to right", booleans "low then high".
 pub fn turn(u: usize, left: usize, count: usize) -> usize
@@ -60,7 +59,7 @@ pub fn node_over(
     children: &mut [u32],
     cuts: &mut [i64],
     index: &mut [u32],
-    memo: &mut [u32],
+    memo: &mut [u64],
     used: Used,
     ok: bool,
     x: NodeId,
@@ -77,12 +76,11 @@ pub fn node_over(
             used,
         };
     }
-    let rooms = nodes.len() / RECORD_WORDS;
     // Children that differed may have become equal. They are merged here; the source does not, and gives equal conditions two ids.
     let m = create_node(nodes, children, cuts, index, used, u, es);
     if m.ok {
         let id = m.id;
-        remember(memo, rooms, x, NodeId::TRUE, id);
+        remember(memo, x, NodeId::TRUE, id, u);
     }
     m
 }

@@ -25,10 +25,10 @@ use making::edges::Edges;
 use making::nodes::Made;
 use making::nodes::Used;
 use making::nodes::settle;
+use memo::recall;
 use ranges::bounds::Bound;
 use ranges::bounds::both_open;
 use ranges::spans::Range;
-use table::limits::RECORD_WORDS;
 use table::limits::VARIABLES;
 use views::child;
 use views::is_before;
@@ -36,7 +36,6 @@ use views::variable;
 use views::view_at;
 use views::view_of;
 use walks::finish::finish;
-use walks::memo::recall;
 
 // "Empty bounds give FALSE."
 pub fn widen(
@@ -44,7 +43,7 @@ pub fn widen(
     children: &mut [u32],
     cuts: &mut [i64],
     index: &mut [u32],
-    memo: &mut [u32],
+    memo: &mut [u64],
     used: Used,
     id: NodeId,
     v: usize,
@@ -116,7 +115,7 @@ pub fn widen_from(
     children: &mut [u32],
     cuts: &mut [i64],
     index: &mut [u32],
-    memo: &mut [u32],
+    memo: &mut [u64],
     used: Used,
     id: NodeId,
     v: usize,
@@ -129,7 +128,7 @@ pub fn widen_from(
     if !is_before(nodes, id, v) {
         return widen_here(nodes, children, cuts, index, used, id, v, range);
     }
-    let s = recall(memo, nodes.len() / RECORD_WORDS, id, NodeId::TRUE);
+    let s = recall(memo, id, NodeId::TRUE);
     if s.done {
         let id = s.id;
         return Made { ok: true, id, used };

@@ -4,8 +4,8 @@ ghost use mathlib.Core.Bool.{true, false};
 ghost use mathlib.Core.Option.{some, none};
 ghost use Rattle.algebra.specs.Conjunction.{opening};
 use ids::NodeId;
+use memo::Settled;
 use views::opposed;
-use walks::memo::Settled;
 
 // x is TRUE, y is TRUE, they are equal, one is FALSE or they are opposite.
 pub fn opened(x: NodeId, y: NodeId) -> Settled

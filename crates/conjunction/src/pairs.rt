@@ -19,15 +19,15 @@ use making::nodes::Made;
 use making::nodes::Used;
 use making::nodes::create_pair;
 use making::nodes::settle;
+use memo::in_order;
+use memo::recall;
+use memo::remember;
 use table::limits::FIRST_BOOLEAN;
-use table::limits::RECORD_WORDS;
 use views::View;
 use views::child;
 use views::cut;
 use views::first_variable;
 use views::view_of;
-use walks::memo::recall;
-use walks::memo::remember;
 use walks::steps::advance;
 use walks::steps::edge_of;
 
@@ -38,7 +38,7 @@ pub fn conjoin(
     children: &mut [u32],
     cuts: &mut [i64],
     index: &mut [u32],
-    memo: &mut [u32],
+    memo: &mut [u64],
     used: Used,
     x: NodeId,
     y: NodeId,
@@ -52,9 +52,11 @@ pub fn conjoin(
         let id = s.id;
         return Made { ok: true, id, used };
     }
-    let rooms = nodes.len() / RECORD_WORDS;
-    // Only now the memo: x is not TRUE any more, and so an empty entry, whose first word is 0, cannot answer.
-    let s = recall(memo, rooms, x, y);
+    // Only now the memo: neither is TRUE any more, and so a word that is no entry, whose first id is 0, cannot answer. Conjunction commutes.
+    let p = in_order(x, y);
+    let first = p.first;
+    let second = p.second;
+    let s = recall(memo, first, second);
     if s.done {
         let id = s.id;
         return Made { ok: true, id, used };
@@ -67,7 +69,7 @@ pub fn conjoin(
     // "No room" is not remembered: it is no answer, and it ends the whole operation.
     if m.ok {
         let id = m.id;
-        remember(memo, rooms, x, y, id);
+        remember(memo, first, second, id, v);
     }
     m
 }
@@ -80,7 +82,7 @@ fn apply(
     children: &mut [u32],
     cuts: &mut [i64],
     index: &mut [u32],
-    memo: &mut [u32],
+    memo: &mut [u64],
     used: Used,
     a: View,
     b: View,
@@ -135,7 +137,7 @@ fn apply_ranges(
     children: &mut [u32],
     cuts: &mut [i64],
     index: &mut [u32],
-    memo: &mut [u32],
+    memo: &mut [u64],
     used: Used,
     a: View,
     b: View,

@@ -4,7 +4,7 @@ ghost use Rattle.diagram.specs.Table.{firstBoolean, variables};
 ghost use Rattle.table.specs.Deciding.{Decides};
 ghost use Rattle.kernel.specs.Makes.{BothKnown};
 ghost use Rattle.kernel.specs.Admitting.{Admits, AdmitsIds};
-ghost use Rattle.table.specs.Layout.{store};
+ghost use Rattle.table.specs.Layout.{MemoLengths, store};
 use super::answers::WRONG_VARIABLE;
 use ids::NodeId;
 use making::nodes::Used;
@@ -49,6 +49,22 @@ pub fn admit(nodes: &[u32], children: &[u32], cuts: &[i64], index: &[u32], kind:
     Admission { number: DONE, used }
 }
 
+// Whether a memo of so many words may be lent beside so many records.
+fn memo_allowed(memo: usize, rooms: usize) -> bool
+    ensures { λ r. ⌜ Decides (MemoLengths memo rooms) r ⌝ }
+{
+    if memo % MEMO_WORDS != 0 {
+        return false;
+    }
+    if memo < MEMO_WORDS {
+        return false;
+    }
+    if rooms < memo / MEMO_WORDS {
+        return false;
+    }
+    true
+}
+
 // Refusals 1 to 4, for a call that is given two ids, or one id twice, and is lent a memo of `memo` words. The kind comes after the ids; a
 // call that asks none says true.
 pub fn admit_ids(
@@ -64,7 +80,7 @@ pub fn admit_ids(
     ensures { λ r. ⌜ AdmitsIds (store (now (nodes .entry)) (now (children .entry)) (now (cuts .entry))) (now (index .entry)) memo (x .0) (y .0) kind (r .number) (r .used) ⌝ }
 {
     // A length is refusal 1, and so comes before the table (2). If the length of `nodes` is wrong too, it is 1 either way.
-    if memo != nodes.len() / RECORD_WORDS * MEMO_WORDS {
+    if !memo_allowed(memo, nodes.len() / RECORD_WORDS) {
         return Admission {
             number: WRONG_ROOM,
             used: Used { nodes: 0, edges: 0 },

@@ -12,8 +12,9 @@ use changes::narrowing;
 use changes::restriction;
 use changes::widening;
 use ids::NodeId;
+use memo::clear;
+use memo::wipe;
 use ranges::bounds::Bound;
-use table::fresh::zero_words;
 use table::told::DONE;
 use table::words::wide;
 
@@ -23,7 +24,7 @@ pub fn restrict(
     children: &mut [u32],
     cuts: &mut [i64],
     index: &mut [u32],
-    memo: &mut [u32],
+    memo: &mut [u64],
     id: NodeId,
     v: u32,
     value: bool,
@@ -37,10 +38,10 @@ pub fn restrict(
     }
     let used = a.used;
     // Only after the checks, since refusals 1 to 4 leave the memo as found.
-    zero_words(memo);
+    wipe(memo);
     let m = restriction::restrict(nodes, children, cuts, index, memo, used, id, wide(v), value);
     // Again, and after "no room" too: entries may then name nodes that were taken back.
-    zero_words(memo);
+    clear(memo);
     answer_of(m)
 }
 
@@ -50,7 +51,7 @@ pub fn narrow(
     children: &mut [u32],
     cuts: &mut [i64],
     index: &mut [u32],
-    memo: &mut [u32],
+    memo: &mut [u64],
     id: NodeId,
     v: u32,
     lower: Bound,
@@ -64,7 +65,7 @@ pub fn narrow(
         return refused(a.number);
     }
     let used = a.used;
-    zero_words(memo);
+    wipe(memo);
     let m = narrowing::narrow(
         nodes,
         children,
@@ -77,7 +78,7 @@ pub fn narrow(
         lower,
         upper,
     );
-    zero_words(memo);
+    clear(memo);
     answer_of(m)
 }
 
@@ -87,7 +88,7 @@ pub fn widen(
     children: &mut [u32],
     cuts: &mut [i64],
     index: &mut [u32],
-    memo: &mut [u32],
+    memo: &mut [u64],
     id: NodeId,
     v: u32,
     lower: Bound,
@@ -101,7 +102,7 @@ pub fn widen(
         return refused(a.number);
     }
     let used = a.used;
-    zero_words(memo);
+    wipe(memo);
     let m = widening::widen(
         nodes,
         children,
@@ -114,6 +115,6 @@ pub fn widen(
         lower,
         upper,
     );
-    zero_words(memo);
+    clear(memo);
     answer_of(m)
 }

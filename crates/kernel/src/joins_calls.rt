@@ -8,7 +8,8 @@ use super::answers::answer_of;
 use super::answers::refused;
 use conjunction::joins;
 use ids::NodeId;
-use table::fresh::zero_words;
+use memo::clear;
+use memo::wipe;
 use table::told::DONE;
 
 // Both.
@@ -17,7 +18,7 @@ pub fn and(
     children: &mut [u32],
     cuts: &mut [i64],
     index: &mut [u32],
-    memo: &mut [u32],
+    memo: &mut [u64],
     x: NodeId,
     y: NodeId,
 ) -> Answer
@@ -29,9 +30,9 @@ pub fn and(
     }
     let used = a.used;
     // Cleared at both ends: what was lent is never believed, and what was worked out is left to nobody.
-    zero_words(memo);
+    wipe(memo);
     let m = joins::and(nodes, children, cuts, index, memo, used, x, y);
-    zero_words(memo);
+    clear(memo);
     answer_of(m)
 }
 
@@ -41,7 +42,7 @@ pub fn or(
     children: &mut [u32],
     cuts: &mut [i64],
     index: &mut [u32],
-    memo: &mut [u32],
+    memo: &mut [u64],
     x: NodeId,
     y: NodeId,
 ) -> Answer
@@ -52,8 +53,8 @@ pub fn or(
         return refused(a.number);
     }
     let used = a.used;
-    zero_words(memo);
+    wipe(memo);
     let m = joins::or(nodes, children, cuts, index, memo, used, x, y);
-    zero_words(memo);
+    clear(memo);
     answer_of(m)
 }

@@ -66,6 +66,12 @@ pub record Lengths (nodes children cuts index : ℕ) : Type 0 where
   pub cut-each : cuts ≡ children
   pub indexed : index ≡ nodes / 4 * 2
 
+-- Of a memo, which is words of 64 bits: whole sets of eight words, at least one, and at most one for each node record.
+pub record MemoLengths (memo rooms : ℕ) : Type 0 where
+  pub sets : memo ≡ memo / 8 * 8
+  pub some-sets : 1 ≤ memo / 8
+  pub most-sets : memo / 8 ≤ rooms
+
 -- A stored cut by its position, from 1 to 2^33, and 0 for a number that is no cut.
 abbrev pub cutPosition : ℤ → ℕ
 cutPosition (pos n) = cond (ltb n (2 ^ 32)) (position (pos n)) 0

@@ -10,7 +10,7 @@ pub const RECORD_WORDS: usize = 4;
 
 pub const INDEX_WORDS: usize = 2;
 
-pub const MEMO_WORDS: usize = 3;
+pub const MEMO_WORDS: usize = 8;
 
 // "A range node has 2 to 64 edges."
 pub const MOST_EDGES: usize = 64;

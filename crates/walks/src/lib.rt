@@ -1,5 +1,4 @@
-// What operations walk down a lent table with: the memo, the end of an operation, the edge of a boolean variable, and the step of the edge
-// merge of two.
+// What operations walk down a lent table with: the end of an operation, the edge of a boolean variable, and the step of the edge merge of
+// two.
 pub mod finish;
-pub mod memo;
 pub mod steps;

@@ -1,0 +1,2 @@
+-- The memo's laws. Assumes nothing.
+pub mod Recalled
