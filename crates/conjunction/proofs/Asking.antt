@@ -1,16 +1,18 @@
 -- What the pair walk asks of the table, and that the merge of both sides is what it answers. Assumes nothing.
-use mathlib.Core.Path.{_≡_, sym, _∙_, ap, ap₂, subst}
-use mathlib.Core.Bool.{Bool, not, _&&_}
+use mathlib.Core.Path.{_≡_, refl, sym, _∙_, ap, ap₂, subst}
+use mathlib.Core.Bool.{Bool, true, false, not, _&&_}
 use mathlib.Core.List.{List}
 use mathlib.Core.Logic.{_⊎_, inl, inr, ⊎-elim}
 use mathlib.Core.Option.{none, some}
-use Prim.Native.Nat.{ℕ, suc, _+_, _-_, _≤_, _<_, min}
+use Prim.Native.Nat.{ℕ, suc, _+_, _-_, _*_, _≤_, _<_, min}
 use native.Mathlib.Omega.{arith}
 use native.Mathlib.Decide.{ℕ-discrete}
 use lib.Dec.{eqb}
+use lib.ListN.{length}
 use lib.IntN.{ℤ}
 use borrow.Author.Tests.{lt-ltb, eq-eqb, ne-eqb}
 use Rattle.ids.specs.Id.{ref}
+use Rattle.ids.specs.Index.{KnownTo}
 use Rattle.diagram.specs.Pieces.{count}
 use Rattle.diagram.specs.Table.{variables, firstBoolean, isRange, Table, at, value}
 use Rattle.diagram.specs.Cofactor.{edgesOf}
@@ -20,16 +22,19 @@ use Rattle.diagram.proofs.Facts.{facts-at, is-node}
 use Rattle.diagram.proofs.Cofactors.{edge-other, count-own}
 use Rattle.algebra.specs.Conjunction.{opening, conj-node, conj}
 use Rattle.algebra.proofs.Conjoining.{neither-is-terminal}
-use Rattle.table.specs.Layout.{varAt, start, Store}
+use Rattle.table.specs.Layout.{mostNodes, varAt, start, Store}
 use Rattle.table.proofs.Laws.{lt-or-le}
 use Rattle.merging.proofs.Conjoined as joined
+use Rattle.memo.specs.Recalling.{Framed, Ordered, as-given, turned}
+use Rattle.memo.proofs.Recalled.{in-either-order}
 use Rattle.making.specs.declared.nodes.Used.{Used}
+use Rattle.making.specs.declared.nodes.Made.{Made}
 use Rattle.making.specs.Outcome.{tableOf}
 use Rattle.views.specs.declared.View.{View}
 use Rattle.views.specs.Seeing.{Asked, Inside, Sees, Views, seen}
-use Rattle.views.proofs.Sights.{known-held, views-rising, views-kids, bool-count-le-two, seen-count, first-variable-is, sees-views, call-left}
-use Rattle.walks.specs.Walking.{Ready, Sides, both}
-use Rattle.walks.proofs.Composing.{Grows, lent-sound, ready-readable}
+use Rattle.views.proofs.Sights.{known-held, known-used, views-rising, views-kids, bool-count-le-two, seen-count, first-variable-is, sees-views, call-left}
+use Rattle.walks.specs.Walking.{Ready, Stepped, Sides, both}
+use Rattle.walks.proofs.Composing.{Grows, lent-sound, ready-remembers, ready-readable, ready-after-step}
 use Rattle.walks.proofs.Walk.{Walk}
 use Rattle.conjunction.specs.Joining.{Entry, pairs}
 
@@ -41,6 +46,24 @@ entry-grown t t′ z z′ g x y c e = record {
   known = omega (arith, continues-length g, e .known);
   means = λ α. rw (continues-value g α x (e .left-known), continues-value g α y (e .right-known), continues-value g α c (e .known)) (e .means α);
 }
+
+-- Conjunction commutes: an entry of two ids is one of them in either order.
+both-turned : (a b : Bool) → (a && b) ≡ (b && a)
+both-turned true true = refl
+both-turned true false = refl
+both-turned false true = refl
+both-turned false false = refl
+
+entry-turned : {t : Table} {x y z : ℕ} → Entry t x y z → Entry t y x z
+entry-turned {t} {x} {y} e = record { left-known = e .right-known; right-known = e .left-known; known = e .known; means = λ α. e .means α ∙ both-turned (value t α x) (value t α y) }
+
+pub entry-ordered : {t : Table} {x y a b z : ℕ} → Ordered x y a b → Entry t x y z → Entry t a b z
+entry-ordered as-given e = e
+entry-ordered turned e = entry-turned e
+
+pub entry-as-given : {t : Table} {x y a b z : ℕ} → Ordered x y a b → Entry t a b z → Entry t x y z
+entry-as-given as-given e = e
+entry-as-given turned e = entry-turned e
 
 -- The walk of conjunction.
 abbrev pub conj-walk : (v n : ℕ) → Walk v n
@@ -171,3 +194,13 @@ module _ {h : Used} {st : Store} {index memo : List ℕ} (r : Ready Entry h st i
             ∙ (ap₂ (both (not (isRange v) && not (eqb u w)) (pairs (n - 1)) t v) (va .edges) (vb .edges)
             ∙ (ap (λ (i : ℕ). both (not (isRange i) && not (eqb u w)) (pairs (n - 1)) t i (edgesOf t i x) (edgesOf t i y)) ev
             ∙ (sym (joined.conj-walked (n - 1) t x y none) ∙ ap (λ (m : ℕ). conj m t x y) (sym one-less))))
+
+        -- What the memo asks of an answer that it is to keep.
+        pub note-asked : {m : Made} {st′ : Store} {index′ memo′ : List ℕ} → Stepped Entry h (both (not (isRange v) && not (eqb (a .count) (b .count))) (pairs (n - 1)) t v (seen (st .children) (st .cuts) v a 0) (seen (st .children) (st .cuts) v b 0)) m st memo st′ index′ memo′
+            → m .ok ≡ true → {i j : ℕ} → Ordered x y i j
+            → (8 ≤ length memo′) × (length memo′ ≤ mostNodes * 8) × Framed memo′ × (i < 262144) × (j < 262144) × (m .id .0 < 262144) × (v < variables)
+        note-asked {m} {st′} c ok o =
+            let e = entry-of both-is (c .outcome .table ok) (c .outcome .id ok) in
+            let more = c .outcome .stays .nodes-more in
+            let k = in-either-order (KnownTo (m .used .nodes)) o (omega (arith, ax .known)) (omega (arith, ay .known)) in
+            ready-remembers (ready-after-step r c) (k .0) (k .1) (known-used st′ (m .used .nodes) (m .id .0) (e .known)) hv

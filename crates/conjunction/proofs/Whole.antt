@@ -21,6 +21,7 @@ or-joined t x y i j p q c id e =
     record {
       worked = record {
         long = c .worked .long;
+        framed = c .worked .framed;
         creates = record {
           outcome = record { lent = o .lent; stays = o .stays; table = λ g. o .table g ∙ rw (p, q); id = λ g. e ∙ ap flip (o .id g ∙ rw (p, q)); full = λ g f. o .full g (rw (p, q) f) };
           untouched = c .worked .creates .untouched;

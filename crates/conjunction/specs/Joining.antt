@@ -10,7 +10,7 @@ use Rattle.table.specs.Layout.{Store}
 use Rattle.making.specs.declared.nodes.Used.{Used}
 use Rattle.making.specs.declared.nodes.Made.{Made}
 use Rattle.making.specs.Outcome.{tableOf}
-use Rattle.walks.specs.Recalling.{Memo}
+use Rattle.memo.specs.Recalling.{Memo}
 use Rattle.walks.specs.Walking.{Worked}
 
 -- z says what x and y say together.

@@ -8,7 +8,7 @@ use native.Mathlib.Decide.{ℕ-discrete}
 use lib.ListN.{length, getD, set, replicate, length-set, length-replicate}
 use lib.Seq.{getD-set-same, getD-set-other}
 use Rattle.table.proofs.Promises.{no-word}
-use Rattle.memo.specs.Recalling.{firstOf, secondOf, answerOf, Tells, setsIn, Framed, Memo, Found, Hit, Put, Was, silent, stood, new, Kept, Readied, Noted}
+use Rattle.memo.specs.Recalling.{firstOf, secondOf, answerOf, Tells, setsIn, Framed, Memo, Ordered, as-given, turned, Found, Hit, Put, Was, silent, stood, new, Kept, Readied, Noted}
 
 -- A hit is an entry of the memo.
 pub hit-was-noted : {P : ℕ → ℕ → ℕ → Type 0} {memo : List ℕ} {x y z : ℕ} → Memo P memo → 1 ≤ x → Hit memo x y z → P x y z
@@ -18,6 +18,11 @@ hit-was-noted {P} m l h = rw (← h .tells .first, ← h .tells .second, ← h .
 pub found-is-hit : {memo : List ℕ} {x y w : ℕ} → x < 262144 → y < 262144 → Found memo (x * 262144 + y) w → 0 < w → Hit memo x y (w % 262144)
 found-is-hit a b (inl e) l = absurd (omega arith)
 found-is-hit {memo} {x} {y} {w} a b (inr (i, e, p)) l = record { place = i; tells = subst (Tells x y (w % 262144)) (sym e) (record { first = omega (arith, p); second = omega (arith, p); third = refl }) }
+
+-- What holds of two ids holds of them in either order.
+pub in-either-order : (P : ℕ → Type 0) {x y a b : ℕ} → Ordered x y a b → P x → P y → P a × P b
+in-either-order P as-given p q = (p, q)
+in-either-order P turned p q = (q, p)
 
 -- What was noted leaves a true memo true, where the new answer is.
 pub noted-true : {P : ℕ → ℕ → ℕ → Type 0} {memo memo′ : List ℕ} {x y z : ℕ} → Memo P memo → P x y z → Noted memo x y z memo′ → Memo P memo′

@@ -2,16 +2,17 @@
 use mathlib.Core.Path.{_≡_, refl, sym, _∙_, ap, subst}
 use mathlib.Core.Bool.{true, false}
 use mathlib.Core.List.{List}
-use Prim.Native.Nat.{ℕ, _*_, _/_, _≤_}
+use Prim.Native.Nat.{ℕ, _*_, _/_, _≤_, _<_}
 use native.Mathlib.Omega.{arith}
 use lib.ListN.{length}
 use lib.IntN.{ℤ}
 use Rattle.ids.specs.Id.{ref}
+use Rattle.ids.specs.Index.{KnownTo}
 use Rattle.ids.specs.declared.NodeId.{NodeId}
-use Rattle.diagram.specs.Table.{Table}
+use Rattle.diagram.specs.Table.{variables, Table}
 use Rattle.diagram.specs.Sound.{Sound, Continues}
 use Rattle.diagram.specs.Room.{Fits}
-use Rattle.table.specs.Layout.{room, Store}
+use Rattle.table.specs.Layout.{mostNodes, room, Store}
 use Rattle.table.proofs.Laws.{not-false-and-true}
 use Rattle.table.proofs.Bridge.{sound-held}
 use Rattle.merging.proofs.Fitting.{fits-before}
@@ -22,9 +23,9 @@ use Rattle.making.proofs.Kept.{stays-refl, stays-trans, stays-continues}
 use Rattle.making.proofs.Taken.{cuts-as-long, index-as-long}
 use Rattle.views.specs.Seeing.{Readable, Asked}
 use Rattle.views.proofs.Sights.{sound-readable, known-held}
-use Rattle.walks.specs.Recalling.{Overwritten}
+use Rattle.memo.specs.Recalling.{Framed, Noted}
+use Rattle.memo.proofs.Recalled.{noted-true, memo-still}
 use Rattle.walks.specs.Walking.{Note, Ready, Stepped}
-use Rattle.walks.proofs.Recalled.{overwritten-same-length, overwritten-true, memo-still}
 
 -- What is noted of a table stays true of one that continues it.
 abbrev pub Grows : Note → Type 0
@@ -41,7 +42,19 @@ lent-readable {h} {st} {index} l = sound-readable st index (h .nodes) (l .allowe
 pub outcome-adds-nothing : {h : Used} {st : Store} {index : List ℕ} → Lent h st index → {want : Table × ℕ} (id : NodeId) → want ≡ (tableOf h st, id .0) → Outcome h want (record { ok = true; id = id; used = h }) st st index
 outcome-adds-nothing l id e = record { lent = l; stays = stays-refl; table = λ q. sym (ap (λ (x : Table × ℕ). x .0) e); id = λ q. sym (ap (λ (x : Table × ℕ). x .1) e); full = λ q. absurd (not-false-and-true q refl) }
 
+-- Known ids are small enough for an entry of the memo.
+pub known-small : {h : Used} {st : Store} {index : List ℕ} → Lent h st index → {x : ℕ} → KnownTo (h .nodes) x → x < 262144
+known-small l k = omega (arith, l .sound .records .fits, l .allowed .most-nodes)
+
 module _ {P : Note} {h : Used} {st : Store} {index memo : List ℕ} (r : Ready P h st index memo) where
+  -- What a look at the memo asks, and what a note asks.
+  pub ready-recalls : {x y : ℕ} → KnownTo (h .nodes) x → KnownTo (h .nodes) y → (1 ≤ length memo) × (length memo ≤ mostNodes * 8) × Framed memo × (x < 262144) × (y < 262144)
+  ready-recalls j k = (omega (arith, r .long .some-sets), omega (arith, r .long .sets, r .long .most-sets, r .lent .allowed .most-nodes), r .recalled .framed, known-small (r .lent) j, known-small (r .lent) k)
+
+  pub ready-remembers : {x y z v : ℕ} → KnownTo (h .nodes) x → KnownTo (h .nodes) y → KnownTo (h .nodes) z → v < variables
+      → (8 ≤ length memo) × (length memo ≤ mostNodes * 8) × Framed memo × (x < 262144) × (y < 262144) × (z < 262144) × (v < variables)
+  ready-remembers i j k l = let q = ready-recalls i j in (omega (arith, r .long .some-sets), q .1, q .2, q .3, q .4, known-small (r .lent) k, l)
+
   pub ready-readable : Readable st (h .nodes)
   ready-readable = lent-readable (r .lent)
 
@@ -66,7 +79,7 @@ module _ {P : Note} {h : Used} {st : Store} {index memo : List ℕ} (r : Ready P
 
     -- and the next step finds what it asks.
     pub ready-after-step : Ready P (m .used) st′ index′ memo′
-    ready-after-step = record { lent = c .outcome .lent; long = c .long ∙ (r .long ∙ ap (λ (n : ℕ). n * 3) (sym same-room)); recalled = c .recalled }
+    ready-after-step = record { lent = c .outcome .lent; long = rw (c .long, same-room) (r .long); recalled = c .recalled }
 
     pub stepped-continues : Continues (tableOf h st) (tableOf (m .used) st′)
     stepped-continues = stays-continues (r .lent) (c .outcome .stays)
@@ -110,5 +123,5 @@ module _ {P : Note} {h : Used} {want want′ : Table × ℕ} {m : Made} {st : St
 
 -- One more answer is noted.
 pub stepped-with-note : {P : Note} {h : Used} {want : Table × ℕ} {m : Made} {st : Store} {memo : List ℕ} {st′ : Store} {index′ memo′ memo″ : List ℕ} → Stepped P h want m st memo st′ index′ memo′
-    → {x y z : ℕ} → P (tableOf (m .used) st′) x y z → Overwritten memo′ x y z memo″ → Stepped P h want m st memo st′ index′ memo″
-stepped-with-note c e o = record { outcome = c .outcome; long = overwritten-same-length o ∙ c .long; recalled = overwritten-true (c .recalled) e o }
+    → {x y z : ℕ} → P (tableOf (m .used) st′) x y z → Noted memo′ x y z memo″ → Stepped P h want m st memo st′ index′ memo″
+stepped-with-note c e o = record { outcome = c .outcome; long = o .long ∙ c .long; recalled = noted-true (c .recalled) e o }

@@ -7,26 +7,26 @@ use lib.ListN.{length, replicate}
 use lib.IntN.{ℤ}
 use Rattle.ids.specs.declared.NodeId.{NodeId}
 use Rattle.diagram.specs.Table.{Table}
-use Rattle.table.specs.Layout.{room, Store}
+use Rattle.table.specs.Layout.{room, MemoLengths, Store}
 use Rattle.table.proofs.Laws.{not-false-and-true}
 use Rattle.making.specs.declared.nodes.Used.{Used}
 use Rattle.making.specs.declared.nodes.Made.{Made}
 use Rattle.making.specs.Outcome.{Lent, Outcome, Creates, tableOf}
 use Rattle.making.proofs.Taken.{taken-back-untouched, outcome-when-taken-back}
-use Rattle.walks.specs.Recalling.{Memo}
+use Rattle.memo.specs.Recalling.{Framed, Memo, Cleared}
+use Rattle.memo.proofs.Recalled.{framed-zeroed, memo-zeroed}
 use Rattle.walks.specs.Walking.{Note, Ready, Stepped, Finishes, Worked}
-use Rattle.walks.proofs.Recalled.{memo-zeroed}
 use Rattle.walks.proofs.Composing.{outcome-adds-nothing}
 
 -- A memo of zeros is true of any table.
-pub ready-zeroed : {P : Note} {h : Used} {st : Store} {index memo : List ℕ} → Lent h st index → length memo ≡ room (st .nodes) * 3 → memo ≡ replicate (length memo) 0 → Ready P h st index memo
+pub ready-zeroed : {P : Note} {h : Used} {st : Store} {index memo : List ℕ} → Lent h st index → MemoLengths (length memo) (room (st .nodes)) → Cleared memo → Ready P h st index memo
 ready-zeroed {P} {h} {st} {memo = memo} l long e = record { lent = l; long = long; recalled = subst (Memo (P (tableOf h st))) (sym e) (memo-zeroed (length memo)) }
 
 module _ {P : Note} {h : Used} {st : Store} {index memo : List ℕ} (l : Lent h st index) {want : Table × ℕ} {m : Made} {st₁ : Store} {index₁ memo₁ : List ℕ} (c : Stepped P h want m st memo st₁ index₁ memo₁)
     {o : Made} {st′ : Store} {index′ : List ℕ} (e : Finishes (h .nodes) m st₁ index₁ o st′ index′) where
   -- A whole operation: a walk, and its end.
   pub worked-when-finished : Worked h want o st index memo st′ index′ memo₁
-  worked-when-finished = record { creates = go (m .ok) refl; long = c .long }
+  worked-when-finished = record { creates = go (m .ok) refl; long = c .long; framed = c .recalled .framed }
     where
       go : (b : Bool) → m .ok ≡ b → Creates h want o st index st′ index′
       go true good =
@@ -45,5 +45,5 @@ module _ {P : Note} {h : Used} {st : Store} {index memo : List ℕ} (l : Lent h 
       go false q = absurd (not-false-and-true (e .taken q .0) good)
 
 -- An operation that answers without a node leaves the table and the memo as they were.
-pub worked-adds-nothing : {h : Used} {st : Store} {index memo : List ℕ} → Lent h st index → {want : Table × ℕ} (id : NodeId) → want ≡ (tableOf h st, id .0) → Worked h want (record { ok = true; id = id; used = h }) st index memo st index memo
-worked-adds-nothing l id e = record { creates = record { outcome = outcome-adds-nothing l id e; untouched = λ q. absurd (not-false-and-true q refl) }; long = refl }
+pub worked-adds-nothing : {h : Used} {st : Store} {index memo : List ℕ} → Lent h st index → Cleared memo → {want : Table × ℕ} (id : NodeId) → want ≡ (tableOf h st, id .0) → Worked h want (record { ok = true; id = id; used = h }) st index memo st index memo
+worked-adds-nothing {memo = memo} l k id e = record { creates = record { outcome = outcome-adds-nothing l id e; untouched = λ q. absurd (not-false-and-true q refl) }; long = refl; framed = subst Framed (sym k) (framed-zeroed (length memo)) }

@@ -1,5 +1,4 @@
 -- The laws of walking down a lent table, lowest first. Assumes nothing.
-pub mod Recalled
 pub mod Composing
 pub mod Finished
 pub mod Walk

@@ -1,3 +1,2 @@
--- Walking down a lent table: the memo, what a step asks and leaves, and what a whole operation leaves. Assumes nothing.
-pub mod Recalling
+-- Walking down a lent table: what a step asks and leaves, and what a whole operation leaves. Assumes nothing.
 pub mod Walking

@@ -14,7 +14,7 @@ use Rattle.diagram.specs.Sound.{Child}
 use Rattle.algebra.specs.Overlay.{overlay}
 use Rattle.algebra.specs.Making.{create-node}
 use Rattle.algebra.specs.Conjunction.{walkIn, create-over}
-use Rattle.table.specs.Layout.{room, Store}
+use Rattle.table.specs.Layout.{room, MemoLengths, Store}
 use Rattle.making.specs.declared.edges.Edges as built
 use Rattle.making.specs.declared.nodes.Used.{Used}
 use Rattle.making.specs.declared.nodes.Made.{Made}
@@ -22,7 +22,7 @@ use Rattle.making.specs.Building.{Building, piecesOf}
 use Rattle.making.specs.Outcome.{Lent, Outcome, Untouched, Creates, TakenBack, tableOf}
 use Rattle.views.specs.declared.View.{View}
 use Rattle.views.specs.Seeing.{beyond, seen, Inside}
-use Rattle.walks.specs.Recalling.{Memo, Overwritten}
+use Rattle.memo.specs.Recalling.{Framed, Memo}
 
 -- What an entry x, y, z of an operation's memo says of a table.
 abbrev pub Note : Type 1
@@ -31,7 +31,7 @@ Note = Table → ℕ → ℕ → ℕ → Type 0
 -- A lent table with its memo.
 pub record Ready (P : Note) (h : Used) (st : Store) (index memo : List ℕ) : Type 0 where
   pub lent : Lent h st index
-  pub long : length memo ≡ room (st .nodes) * 3
+  pub long : MemoLengths (length memo) (room (st .nodes))
   pub recalled : Memo (P (tableOf h st)) memo
 
 -- The outcome of a step, and that the memo is still true.
@@ -70,8 +70,9 @@ pub record Finishes (keep : ℕ) (m : Made) (st : Store) (index : List ℕ) (r :
   pub kept : m .ok ≡ true → (r ≡ m) × Untouched st index st′ index′
   pub taken : m .ok ≡ false → (r .ok ≡ false) × TakenBack keep (m .used) st (r .used) st′ index′
 
--- What a whole operation leaves: its outcome, and nothing else where there was no room. The memo keeps its length; what it holds is the
--- caller's to clear.
+-- What a whole operation leaves: its outcome, and nothing else where there was no room. The memo keeps its length and its frame; what it
+-- holds is the caller's to clear.
 pub record Worked (h : Used) (want : Table × ℕ) (r : Made) (st : Store) (index memo : List ℕ) (st′ : Store) (index′ memo′ : List ℕ) : Type 0 where
   pub creates : Creates h want r st index st′ index′
   pub long : length memo′ ≡ length memo
+  pub framed : Framed memo′

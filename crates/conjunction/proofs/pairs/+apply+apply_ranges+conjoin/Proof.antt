@@ -1,7 +1,7 @@
 -- `pairs::conjoin` meets its contract, with the two functions that it goes down by. Assumes nothing.
 use mathlib.Core.Path.{refl, sym, _∙_, subst}
 use mathlib.Core.Bool.{not}
-use Prim.Native.Nat.{ℕ, _+_, _*_, _<_}
+use Prim.Native.Nat.{ℕ, _+_, _*_, _≤_, _<_}
 use native.Mathlib.Omega.{arith}
 use lib.Dec.{eqb}
 use borrow.Author.Needs.{needs}
@@ -9,9 +9,10 @@ use borrow.Author.Tests.{not-false, not-true}
 use borrow.Fn.Kinds.{In}
 use borrow.Fn.PlainCycle.{Measures, is, falls, and}
 use Rattle.views.proofs.Sights.{record-inside, call-left}
-use Rattle.walks.proofs.Recalled.{hit-was-noted, overwritten-same-length}
-use Rattle.walks.proofs.Composing.{ready-readable, stepped-adds-nothing, stepped-with-note, cuts-same-length, index-same-length, ready-after-step, stepped-trans, stepped-then-outcome, stepped-equal-want}
-use Rattle.conjunction.proofs.Asking.{entry-grown, conj-walk, opened-is, recalled-is, entry-of, left-node, right-node, sides, both-is}
+use Rattle.ids.specs.Index.{KnownTo}
+use Rattle.memo.proofs.Recalled.{hit-was-noted, in-either-order}
+use Rattle.walks.proofs.Composing.{ready-recalls, ready-readable, stepped-adds-nothing, stepped-with-note, cuts-same-length, index-same-length, ready-after-step, stepped-trans, stepped-then-outcome, stepped-equal-want}
+use Rattle.conjunction.proofs.Asking.{entry-grown, entry-ordered, entry-as-given, conj-walk, opened-is, recalled-is, entry-of, left-node, right-node, sides, both-is, note-asked}
 use Rattle.conjunction.proofs.Ordering.{left-to-right, by-tests}
 use Rattle.walks.proofs.Halves.{half-inside}
 use Rattle.walks.proofs.Booleans.{inside-all-children, half-child-read, half-child-stays, first-asked, stepped-first-fails, second-asked, stepped-second-fails, both-are-children, stepped-pair-built}
@@ -25,8 +26,9 @@ use Rattle.conjunction.proofs.pairs.+apply+apply_ranges+conjoin.Lts-app
 use Rattle.conjunction.proofs.pairs.conjoin.Reads as conjoin
 use Rattle.conjunction.proofs.pairs.conjoin.Kinds as conjoin-kinds
 use Rattle.conjunction.proofs.pairs.+apply+apply_ranges+conjoin.Lts-conjoin as conjoin-lts
-use Rattle.walks.proofs.memo.recall.Reads as recall-reads
-use Rattle.walks.proofs.memo.remember.Reads as remember-reads
+use Rattle.memo.proofs.in_order.Reads as in-order-reads
+use Rattle.memo.proofs.recall.Reads as recall-reads
+use Rattle.memo.proofs.remember.Reads as remember-reads
 use Rattle.conjunction.proofs.opening.opened.Reads as opened-reads
 use Rattle.conjunction.proofs.pairs.first_unless.Reads as first-unless-reads
 use Rattle.walks.proofs.steps.advance.Reads as advance-reads
@@ -83,7 +85,7 @@ abbrev apply-ranges-claims : ℕ → apply-ranges-lts.Claims
 apply-ranges-claims t = (new-reads.Asked, new-reads.Learnt, child-reads.Asked, child-reads.Learnt, cut-reads.Asked, cut-reads.Learnt, conjoin-below t, conjoin.Post, slot-for-reads.Asked, slot-for-reads.Learnt, advance-reads.Asked, advance-reads.Learnt, settle-reads.Asked, settle-reads.Learnt)
 
 abbrev conjoin-claims : ℕ → conjoin-lts.Claims
-conjoin-claims t = (opened-reads.Asked, opened-reads.Learnt, recall-reads.Asked, recall-reads.Learnt, first-variable-reads.Asked, first-variable-reads.Learnt, view-of-reads.Asked, view-of-reads.Learnt, apply-below t, apply.Post, remember-reads.Asked, remember-reads.Learnt)
+conjoin-claims t = (opened-reads.Asked, opened-reads.Learnt, in-order-reads.Asked, in-order-reads.Learnt, recall-reads.Asked, recall-reads.Learnt, first-variable-reads.Asked, first-variable-reads.Learnt, view-of-reads.Asked, view-of-reads.Learnt, apply-below t, apply.Post, remember-reads.Asked, remember-reads.Learnt)
 
 apply-apply-ranges-requires : (t : ℕ) → apply-lts.Need-apply-ranges-requires (apply-claims t) (apply-at t) apply.Post
 apply-apply-ranges-requires t c κs = (omega (arith, (c .before .before .before .before .before .before .before .before .before .before .pre .0)), ((c .before .before .before .before .before .before .before .before .before .before .pre .1 .0), (c .before .before .before .before .before .before .before .before .before .before .pre .1 .1), omega arith))
@@ -334,41 +336,46 @@ conjoin-returns t c =
 
 conjoin-recall-requires : (t : ℕ) → conjoin-lts.Need-recall-requires (conjoin-claims t) (conjoin-at t) conjoin.Post
 conjoin-recall-requires t c κs =
-    let pre· = c .before .before .before .before .before .before .before .pre in
-    ((pre· .1 .0 .lent .allowed .some-nodes), (pre· .1 .0 .lent .allowed .most-nodes), (pre· .1 .0 .long))
+    let pre· = c .before .before .before .before .before .before .before .before .before .before .pre in
+    let k = in-either-order (KnownTo _) (c .before .before .before .in-order .ensures) (pre· .1 .1 .known) (pre· .1 .2 .known) in
+    ready-recalls (pre· .1 .0) (k .0) (k .1)
 
 conjoin-returns-2 : (t : ℕ) → conjoin-lts.Need-returns-2 (conjoin-claims t) (conjoin-at t) conjoin.Post
-conjoin-returns-2 t c = stepped-adds-nothing (c .before .before .before .before .before .before .before .before .before .before .pre .1 .0) _ (recalled-is (c .before .before .before .before .before .before .before .before .before .before .pre .1 .0) (c .before .before .before .before .before .before .before .before .before .before .pre .1 .1) (c .before .before .before .before .before .before .before .before .before .before .pre .1 .2) (hit-was-noted (c .before .before .before .before .before .before .before .before .before .before .pre .1 .0 .recalled) (omega (arith, left-node (c .before .before .before .before .before .before .before .before .before .before .pre .1 .0) (c .before .before .before .before .before .before .before .before .before .before .pre .1 .1) (c .before .before .before .before .before .before .before .before .before .before .pre .1 .2) ((c .before .before .before .before .before .opened .ensures .1) (c .before .before .before .before .if1 .left)))) ((c .before .before .recall .ensures) (c .before .if2 .taken))))
+conjoin-returns-2 t c =
+    let pre· = c .before .before .before .before .before .before .before .before .before .before .before .before .before .pre in
+    let none = (c .before .before .before .before .before .before .before .before .opened .ensures .1) (c .before .before .before .before .before .before .before .if1 .left) in
+    let two = in-either-order (λ (i : ℕ). 2 ≤ i) (c .before .before .before .before .before .before .in-order .ensures) (left-node (pre· .1 .0) (pre· .1 .1) (pre· .1 .2) none) (right-node (pre· .1 .0) (pre· .1 .1) (pre· .1 .2) none) in
+    stepped-adds-nothing (pre· .1 .0) _ (recalled-is (pre· .1 .0) (pre· .1 .1) (pre· .1 .2) (entry-as-given (c .before .before .before .before .before .before .in-order .ensures) (hit-was-noted (pre· .1 .0 .recalled) (omega (arith, two .0)) ((c .before .before .recall .ensures) (c .before .if2 .taken)))))
 
 conjoin-first-variable-requires : (t : ℕ) → conjoin-lts.Need-first-variable-requires (conjoin-claims t) (conjoin-at t) conjoin.Post
 conjoin-first-variable-requires t c κs =
-    let pre· = c .before .before .before .before .before .before .before .before .before .before .pre in
-    let opened· = c .before .before .before .before .before .opened in
-    let if1· = c .before .before .before .before .if1 in
+    let pre· = c .before .before .before .before .before .before .before .before .before .before .before .before .before .pre in
+    let opened· = c .before .before .before .before .before .before .before .before .opened in
+    let if1· = c .before .before .before .before .before .before .before .if1 in
     (left-node (pre· .1 .0) (pre· .1 .1) (pre· .1 .2) ((opened· .ensures .1) (if1· .left)), record-inside (ready-readable (pre· .1 .0)) _ (pre· .1 .1 .known), right-node (pre· .1 .0) (pre· .1 .1) (pre· .1 .2) ((opened· .ensures .1) (if1· .left)), record-inside (ready-readable (pre· .1 .0)) _ (pre· .1 .2 .known))
 
 conjoin-view-of-requires : (t : ℕ) → conjoin-lts.Need-view-of-requires (conjoin-claims t) (conjoin-at t) conjoin.Post
 conjoin-view-of-requires t c κs =
-    let pre· = c .before .before .before .before .before .before .before .before .before .before .before .before .pre in
-    (left-node (pre· .1 .0) (pre· .1 .1) (pre· .1 .2) ((c .before .before .before .before .before .before .before .opened .ensures .1) (c .before .before .before .before .before .before .if1 .left)), record-inside (ready-readable (pre· .1 .0)) _ (pre· .1 .1 .known))
+    let pre· = c .before .before .before .before .before .before .before .before .before .before .before .before .before .before .before .pre in
+    (left-node (pre· .1 .0) (pre· .1 .1) (pre· .1 .2) ((c .before .before .before .before .before .before .before .before .before .before .opened .ensures .1) (c .before .before .before .before .before .before .before .before .before .if1 .left)), record-inside (ready-readable (pre· .1 .0)) _ (pre· .1 .1 .known))
 
 conjoin-view-of-requires-2 : (t : ℕ) → conjoin-lts.Need-view-of-requires-2 (conjoin-claims t) (conjoin-at t) conjoin.Post
 conjoin-view-of-requires-2 t c κs =
-    let pre· = c .before .before .before .before .before .before .before .before .before .before .before .before .before .before .pre in
-    (right-node (pre· .1 .0) (pre· .1 .1) (pre· .1 .2) ((c .before .before .before .before .before .before .before .before .before .opened .ensures .1) (c .before .before .before .before .before .before .before .before .if1 .left)), record-inside (ready-readable (pre· .1 .0)) _ (pre· .1 .2 .known))
+    let pre· = c .before .before .before .before .before .before .before .before .before .before .before .before .before .before .before .before .before .pre in
+    (right-node (pre· .1 .0) (pre· .1 .1) (pre· .1 .2) ((c .before .before .before .before .before .before .before .before .before .before .before .before .opened .ensures .1) (c .before .before .before .before .before .before .before .before .before .before .before .if1 .left)), record-inside (ready-readable (pre· .1 .0)) _ (pre· .1 .2 .known))
 
 conjoin-sub-apply : (t : ℕ) → conjoin-lts.Need-sub-apply (conjoin-claims t) (conjoin-at t) conjoin.Post
 conjoin-sub-apply t c =
-    let pre· = c .before .before .before .before .before .before .before .before .before .before .before .before .before .before .before .before .before .before .before .before .pre in
+    let pre· = c .before .before .before .before .before .before .before .before .before .before .before .before .before .before .before .before .before .before .before .before .before .before .before .pre in
     call-left (ready-readable (pre· .1 .0)) _ (pre· .1 .1)
 
 conjoin-apply-requires : (t : ℕ) → conjoin-lts.Need-apply-requires (conjoin-claims t) (conjoin-at t) conjoin.Post
-conjoin-apply-requires t c κs = (omega (arith, (c .before .before .before .before .before .before .before .before .before .before .before .before .before .before .before .before .before .before .before .before .pre .0), call-left (ready-readable (c .before .before .before .before .before .before .before .before .before .before .before .before .before .before .before .before .before .before .before .before .pre .1 .0)) _ (c .before .before .before .before .before .before .before .before .before .before .before .before .before .before .before .before .before .before .before .before .pre .1 .1)), ((c .before .before .before .before .before .before .before .before .before .before .before .before .before .before .before .before .before .before .before .before .pre .1 .0), sides (c .before .before .before .before .before .before .before .before .before .before .before .before .before .before .before .before .before .before .before .before .pre .1 .0) (c .before .before .before .before .before .before .before .before .before .before .before .before .before .before .before .before .before .before .before .before .pre .1 .1) (c .before .before .before .before .before .before .before .before .before .before .before .before .before .before .before .before .before .before .before .before .pre .1 .2) ((c .before .before .before .before .before .before .before .before .before .before .before .before .before .before .before .opened .ensures .1) (c .before .before .before .before .before .before .before .before .before .before .before .before .before .before .if1 .left)) (c .before .before .before .before .before .before .before .before .before .first-variable .ensures) (c .before .before .before .before .before .before .before .view-of .ensures) (c .before .before .before .before .before .view-of2 .ensures)))
+conjoin-apply-requires t c κs = (omega (arith, (c .before .before .before .before .before .before .before .before .before .before .before .before .before .before .before .before .before .before .before .before .before .before .before .pre .0), call-left (ready-readable (c .before .before .before .before .before .before .before .before .before .before .before .before .before .before .before .before .before .before .before .before .before .before .before .pre .1 .0)) _ (c .before .before .before .before .before .before .before .before .before .before .before .before .before .before .before .before .before .before .before .before .before .before .before .pre .1 .1)), ((c .before .before .before .before .before .before .before .before .before .before .before .before .before .before .before .before .before .before .before .before .before .before .before .pre .1 .0), sides (c .before .before .before .before .before .before .before .before .before .before .before .before .before .before .before .before .before .before .before .before .before .before .before .pre .1 .0) (c .before .before .before .before .before .before .before .before .before .before .before .before .before .before .before .before .before .before .before .before .before .before .before .pre .1 .1) (c .before .before .before .before .before .before .before .before .before .before .before .before .before .before .before .before .before .before .before .before .before .before .before .pre .1 .2) ((c .before .before .before .before .before .before .before .before .before .before .before .before .before .before .before .before .before .before .opened .ensures .1) (c .before .before .before .before .before .before .before .before .before .before .before .before .before .before .before .before .before .if1 .left)) (c .before .before .before .before .before .before .before .before .before .first-variable .ensures) (c .before .before .before .before .before .before .before .view-of .ensures) (c .before .before .before .before .before .view-of2 .ensures)))
 
 conjoin-remember-requires : (t : ℕ) → conjoin-lts.Need-remember-requires (conjoin-claims t) (conjoin-at t) conjoin.Post
 conjoin-remember-requires t c κs =
-    let pre· = c .before .before .before .before .before .before .before .before .before .before .before .before .before .before .before .before .before .before .before .before .before .before .before .before .before .before .before .before .before .before .before .before .before .pre in
-    ((pre· .1 .0 .lent .allowed .some-nodes), (pre· .1 .0 .lent .allowed .most-nodes), (c .before .before .before .before .before .before .before .before .before .before .before .before .apply .ensures .long) ∙ (pre· .1 .0 .long))
+    let pre· = c .before .before .before .before .before .before .before .before .before .before .before .before .before .before .before .before .before .before .before .before .before .before .before .before .before .before .before .before .before .before .before .before .before .before .before .before .pre in
+    note-asked (pre· .1 .0) (pre· .1 .1) (pre· .1 .2) ((c .before .before .before .before .before .before .before .before .before .before .before .before .before .before .before .before .before .before .before .before .before .before .before .before .before .before .before .before .before .before .before .opened .ensures .1) (c .before .before .before .before .before .before .before .before .before .before .before .before .before .before .before .before .before .before .before .before .before .before .before .before .before .before .before .before .before .before .if1 .left)) (c .before .before .before .before .before .before .before .before .before .before .before .before .before .before .before .before .before .before .before .before .before .before .first-variable .ensures) (c .before .before .before .before .before .before .before .before .before .before .before .before .before .before .before .before .before .before .before .before .view-of .ensures) (c .before .before .before .before .before .before .before .before .before .before .before .before .before .before .before .before .before .before .view-of2 .ensures) (c .before .before .before .before .before .before .before .before .before .before .before .before .apply .ensures) (c .before .before .if3 .taken) (c .before .before .before .before .before .before .before .before .before .before .before .before .before .before .before .before .before .before .before .before .before .before .before .before .before .before .before .before .before .in-order .ensures)
 
 conjoin-same-length-2 : (t : ℕ) → conjoin-lts.Need-same-length-2 (conjoin-claims t) (conjoin-at t) conjoin.Post
 conjoin-same-length-2 t c = (c .before .before .before .before .before .before .before .before .before .before .before .before .before .before .before .apply .ensures .outcome .stays .long)
@@ -377,25 +384,25 @@ conjoin-same-length-3 : (t : ℕ) → conjoin-lts.Need-same-length-3 (conjoin-cl
 conjoin-same-length-3 t c = (c .before .before .before .before .before .before .before .before .before .before .before .before .before .before .before .apply .ensures .outcome .stays .wide)
 
 conjoin-same-length-4 : (t : ℕ) → conjoin-lts.Need-same-length-4 (conjoin-claims t) (conjoin-at t) conjoin.Post
-conjoin-same-length-4 t c = cuts-same-length (c .before .before .before .before .before .before .before .before .before .before .before .before .before .before .before .before .before .before .before .before .before .before .before .before .before .before .before .before .before .before .before .before .before .before .before .before .pre .1 .0) (c .before .before .before .before .before .before .before .before .before .before .before .before .before .before .before .apply .ensures)
+conjoin-same-length-4 t c = cuts-same-length (c .before .before .before .before .before .before .before .before .before .before .before .before .before .before .before .before .before .before .before .before .before .before .before .before .before .before .before .before .before .before .before .before .before .before .before .before .before .before .before .pre .1 .0) (c .before .before .before .before .before .before .before .before .before .before .before .before .before .before .before .apply .ensures)
 
 conjoin-same-length-5 : (t : ℕ) → conjoin-lts.Need-same-length-5 (conjoin-claims t) (conjoin-at t) conjoin.Post
-conjoin-same-length-5 t c = index-same-length (c .before .before .before .before .before .before .before .before .before .before .before .before .before .before .before .before .before .before .before .before .before .before .before .before .before .before .before .before .before .before .before .before .before .before .before .before .pre .1 .0) (c .before .before .before .before .before .before .before .before .before .before .before .before .before .before .before .apply .ensures)
+conjoin-same-length-5 t c = index-same-length (c .before .before .before .before .before .before .before .before .before .before .before .before .before .before .before .before .before .before .before .before .before .before .before .before .before .before .before .before .before .before .before .before .before .before .before .before .before .before .before .pre .1 .0) (c .before .before .before .before .before .before .before .before .before .before .before .before .before .before .before .apply .ensures)
 
 conjoin-same-length-6 : (t : ℕ) → conjoin-lts.Need-same-length-6 (conjoin-claims t) (conjoin-at t) conjoin.Post
-conjoin-same-length-6 t c = overwritten-same-length (c .before .before .remember .ensures) ∙ (c .before .before .before .before .before .before .before .before .before .before .before .before .before .before .before .apply .ensures .long)
+conjoin-same-length-6 t c = (c .before .before .remember .ensures .long) ∙ (c .before .before .before .before .before .before .before .before .before .before .before .before .before .before .before .apply .ensures .long)
 
 conjoin-returns-3 : (t : ℕ) → conjoin-lts.Need-returns-3 (conjoin-claims t) (conjoin-at t) conjoin.Post
 conjoin-returns-3 t c =
-    let pre· = c .before .before .before .before .before .before .before .before .before .before .before .before .before .before .before .before .before .before .before .before .before .before .before .before .before .before .before .before .before .before .before .before .before .before .before .before .pre in
-    let opened· = c .before .before .before .before .before .before .before .before .before .before .before .before .before .before .before .before .before .before .before .before .before .before .before .before .before .before .before .before .before .before .before .opened in
-    let if1· = c .before .before .before .before .before .before .before .before .before .before .before .before .before .before .before .before .before .before .before .before .before .before .before .before .before .before .before .before .before .before .if1 in
+    let pre· = c .before .before .before .before .before .before .before .before .before .before .before .before .before .before .before .before .before .before .before .before .before .before .before .before .before .before .before .before .before .before .before .before .before .before .before .before .before .before .before .pre in
+    let opened· = c .before .before .before .before .before .before .before .before .before .before .before .before .before .before .before .before .before .before .before .before .before .before .before .before .before .before .before .before .before .before .before .before .before .before .opened in
+    let if1· = c .before .before .before .before .before .before .before .before .before .before .before .before .before .before .before .before .before .before .before .before .before .before .before .before .before .before .before .before .before .before .before .before .before .if1 in
     let first-variable· = c .before .before .before .before .before .before .before .before .before .before .before .before .before .before .before .before .before .before .before .before .before .before .before .before .before .first-variable in
     let view-of· = c .before .before .before .before .before .before .before .before .before .before .before .before .before .before .before .before .before .before .before .before .before .before .before .view-of in
     let view-of2· = c .before .before .before .before .before .before .before .before .before .before .before .before .before .before .before .before .before .before .before .before .before .view-of2 in
     let apply· = c .before .before .before .before .before .before .before .before .before .before .before .before .before .before .before .apply in
     let if3· = c .before .before .before .before .before .if3 in
-    stepped-with-note (stepped-equal-want (apply· .ensures) (both-is (pre· .1 .0) (pre· .1 .1) (pre· .1 .2) ((opened· .ensures .1) (if1· .left)) (first-variable· .ensures) (view-of· .ensures) (view-of2· .ensures))) (entry-of (pre· .1 .0) (pre· .1 .1) (pre· .1 .2) (both-is (pre· .1 .0) (pre· .1 .1) (pre· .1 .2) ((opened· .ensures .1) (if1· .left)) (first-variable· .ensures) (view-of· .ensures) (view-of2· .ensures)) ((apply· .ensures .outcome .table) (if3· .taken)) ((apply· .ensures .outcome .id) (if3· .taken))) (c .before .before .remember .ensures)
+    stepped-with-note (stepped-equal-want (apply· .ensures) (both-is (pre· .1 .0) (pre· .1 .1) (pre· .1 .2) ((opened· .ensures .1) (if1· .left)) (first-variable· .ensures) (view-of· .ensures) (view-of2· .ensures))) (entry-ordered (c .before .before .before .before .before .before .before .before .before .before .before .before .before .before .before .before .before .before .before .before .before .before .before .before .before .before .before .before .before .before .before .before .in-order .ensures) (entry-of (pre· .1 .0) (pre· .1 .1) (pre· .1 .2) (both-is (pre· .1 .0) (pre· .1 .1) (pre· .1 .2) ((opened· .ensures .1) (if1· .left)) (first-variable· .ensures) (view-of· .ensures) (view-of2· .ensures)) ((apply· .ensures .outcome .table) (if3· .taken)) ((apply· .ensures .outcome .id) (if3· .taken)))) (c .before .before .remember .ensures)
 
 conjoin-same-length-7 : (t : ℕ) → conjoin-lts.Need-same-length-7 (conjoin-claims t) (conjoin-at t) conjoin.Post
 conjoin-same-length-7 t c = (c .before .before .before .before .before .before .before .before .before .before .apply .ensures .outcome .stays .long)
@@ -404,18 +411,18 @@ conjoin-same-length-8 : (t : ℕ) → conjoin-lts.Need-same-length-8 (conjoin-cl
 conjoin-same-length-8 t c = (c .before .before .before .before .before .before .before .before .before .before .apply .ensures .outcome .stays .wide)
 
 conjoin-same-length-9 : (t : ℕ) → conjoin-lts.Need-same-length-9 (conjoin-claims t) (conjoin-at t) conjoin.Post
-conjoin-same-length-9 t c = cuts-same-length (c .before .before .before .before .before .before .before .before .before .before .before .before .before .before .before .before .before .before .before .before .before .before .before .before .before .before .before .before .before .before .before .pre .1 .0) (c .before .before .before .before .before .before .before .before .before .before .apply .ensures)
+conjoin-same-length-9 t c = cuts-same-length (c .before .before .before .before .before .before .before .before .before .before .before .before .before .before .before .before .before .before .before .before .before .before .before .before .before .before .before .before .before .before .before .before .before .before .pre .1 .0) (c .before .before .before .before .before .before .before .before .before .before .apply .ensures)
 
 conjoin-same-length-10 : (t : ℕ) → conjoin-lts.Need-same-length-10 (conjoin-claims t) (conjoin-at t) conjoin.Post
-conjoin-same-length-10 t c = index-same-length (c .before .before .before .before .before .before .before .before .before .before .before .before .before .before .before .before .before .before .before .before .before .before .before .before .before .before .before .before .before .before .before .pre .1 .0) (c .before .before .before .before .before .before .before .before .before .before .apply .ensures)
+conjoin-same-length-10 t c = index-same-length (c .before .before .before .before .before .before .before .before .before .before .before .before .before .before .before .before .before .before .before .before .before .before .before .before .before .before .before .before .before .before .before .before .before .before .pre .1 .0) (c .before .before .before .before .before .before .before .before .before .before .apply .ensures)
 
 conjoin-same-length-11 : (t : ℕ) → conjoin-lts.Need-same-length-11 (conjoin-claims t) (conjoin-at t) conjoin.Post
 conjoin-same-length-11 t c = (c .before .before .before .before .before .before .before .before .before .before .apply .ensures .long)
 
 conjoin-returns-4 : (t : ℕ) → conjoin-lts.Need-returns-4 (conjoin-claims t) (conjoin-at t) conjoin.Post
 conjoin-returns-4 t c =
-    let pre· = c .before .before .before .before .before .before .before .before .before .before .before .before .before .before .before .before .before .before .before .before .before .before .before .before .before .before .before .before .before .before .before .pre in
-    stepped-equal-want (c .before .before .before .before .before .before .before .before .before .before .apply .ensures) (both-is (pre· .1 .0) (pre· .1 .1) (pre· .1 .2) ((c .before .before .before .before .before .before .before .before .before .before .before .before .before .before .before .before .before .before .before .before .before .before .before .before .before .before .opened .ensures .1) (c .before .before .before .before .before .before .before .before .before .before .before .before .before .before .before .before .before .before .before .before .before .before .before .before .before .if1 .left)) (c .before .before .before .before .before .before .before .before .before .before .before .before .before .before .before .before .before .before .before .before .first-variable .ensures) (c .before .before .before .before .before .before .before .before .before .before .before .before .before .before .before .before .before .before .view-of .ensures) (c .before .before .before .before .before .before .before .before .before .before .before .before .before .before .before .before .view-of2 .ensures))
+    let pre· = c .before .before .before .before .before .before .before .before .before .before .before .before .before .before .before .before .before .before .before .before .before .before .before .before .before .before .before .before .before .before .before .before .before .before .pre in
+    stepped-equal-want (c .before .before .before .before .before .before .before .before .before .before .apply .ensures) (both-is (pre· .1 .0) (pre· .1 .1) (pre· .1 .2) ((c .before .before .before .before .before .before .before .before .before .before .before .before .before .before .before .before .before .before .before .before .before .before .before .before .before .before .before .before .before .opened .ensures .1) (c .before .before .before .before .before .before .before .before .before .before .before .before .before .before .before .before .before .before .before .before .before .before .before .before .before .before .before .before .if1 .left)) (c .before .before .before .before .before .before .before .before .before .before .before .before .before .before .before .before .before .before .before .before .first-variable .ensures) (c .before .before .before .before .before .before .before .before .before .before .before .before .before .before .before .before .before .before .view-of .ensures) (c .before .before .before .before .before .before .before .before .before .before .before .before .before .before .before .before .view-of2 .ensures))
 
 pub +apply+apply-ranges+conjoin-spec : {M : Type 1} → statement M
 +apply+apply-ranges+conjoin-spec = close μ-apply μ-apply-ranges μ-conjoin (λ t. apply-lts.spec
@@ -501,6 +508,7 @@ pub +apply+apply-ranges+conjoin-spec : {M : Type 1} → statement M
     conjoin.Post
     (λ c κs. search needs)
     (conjoin-returns t)
+    (λ c κs. search needs)
     (conjoin-recall-requires t)
     (λ c. search needs)
     (conjoin-returns-2 t)

@@ -9,18 +9,18 @@ use Rattle.kernel.proofs.changes_calls.narrow.Tie as tie
 
 returns : tie.Need-returns
 returns c =
-    let start = c .before .before .before .before .before .before .before .before .before .before .before .before .before in
-    ((held-keyed (start .args .lower) (start .good .1 .1 .1 .1 .1 .1 .1 .0), held-keyed (start .args .upper) (start .good .1 .1 .1 .1 .1 .1 .1 .1 .0)), ids-refused _ _ _ _ _ _ _ _ (λ u k. k .0) (λ u k. (k, k)) (c .before .before .before .before .before .before .before .before .is-range .ensures) (c .before .before .before .admit-ids .ensures) (c .before .if1 .taken) (c .refused .ensures))
+    let start = @Start in
+    ((held-keyed (start .args .lower) (start .good .1 .1 .1 .1 .1 .1 .1 .0), held-keyed (start .args .upper) (start .good .1 .1 .1 .1 .1 .1 .1 .1 .0)), ids-refused _ _ _ _ _ _ _ _ (λ u k. k .0) (λ u k. (k, k)) (@is-range .ensures) (@admit-ids .ensures) (@if1 .taken) (@refused .ensures))
 
 narrow-requires : tie.Need-narrow-requires
 narrow-requires c κs =
-    let l = ids-lent (c .before .before .before .before .before .before .before .before .before .before .before .before .before .before .before .before .before .before .is-range .ensures) (c .before .before .before .before .before .before .before .before .before .before .before .before .before .admit-ids .ensures) (c .before .before .before .before .before .before .before .before .before .before .before .if1 .left) in
-    (l .0, cleared-long (c .before .before .before .before .before .before .before .before .before .before .before .before .before .before .before .before .before .before .before .before .before .before .before .args .memo .now) (c .before .before .before .before .before .before .before .before .zero-words .ensures) ∙ l .1, cleared (c .before .before .before .before .before .before .before .before .before .before .before .before .before .before .before .before .before .before .before .before .before .before .before .args .memo .now) (c .before .before .before .before .before .before .before .before .zero-words .ensures), l .2 .0, omega (arith, (c .wide .ensures .0), l .3))
+    let l = ids-lent (@is-range .ensures) (@admit-ids .ensures) (@if1 .left) in
+    (l .0, cleared-long (@args .memo .now) (@zero-words .ensures) ∙ l .1, cleared (@args .memo .now) (@zero-words .ensures), l .2 .0, omega (arith, (@wide .ensures .0), l .3))
 
 returns-2 : tie.Need-returns-2
 returns-2 c =
-    let start = c .before .before .before .before .before .before .before .before .before .before .before .before .before .before .before .before .before .before .before .before .before .before .before .before .before .before .before .before .before .before .before .before .before .before .before .before .before .before in
-    ((held-keyed (start .args .lower) (start .good .1 .1 .1 .1 .1 .1 .1 .0), held-keyed (start .args .upper) (start .good .1 .1 .1 .1 .1 .1 .1 .1 .0)), ids-answered _ _ _ _ _ _ _ _ (λ u k. k .0) (λ u k. (k, k)) (c .before .before .before .before .before .before .before .before .before .before .before .before .before .before .before .before .before .before .before .before .before .before .before .before .before .before .before .before .before .before .before .before .before .is-range .ensures) (c .before .before .before .before .before .before .before .before .before .before .before .before .before .before .before .before .before .before .before .before .before .before .before .before .before .before .before .before .admit-ids .ensures) (c .before .before .before .before .before .before .before .before .before .before .before .before .before .before .before .before .before .before .before .before .before .before .before .before .before .before .if1 .left) (c .before .before .before .before .before .before .before .before .before .before .before .before .before .before .before .before .before .before .before .before .before .before .before .zero-words .ensures) (c .before .before .before .before .before .before .before .before .before .before .before .before .before .before .narrow .ensures) (c .before .before .before .zero-words2 .ensures) (same-narrow _ (start .args .lower) (start .args .upper) (start .args .id .0) (c .before .before .before .before .before .before .before .before .before .before .before .before .before .before .before .wide .ensures .0)) (c .answer-of .ensures))
+    let start = @Start in
+    ((held-keyed (start .args .lower) (start .good .1 .1 .1 .1 .1 .1 .1 .0), held-keyed (start .args .upper) (start .good .1 .1 .1 .1 .1 .1 .1 .1 .0)), ids-answered _ _ _ _ _ _ _ _ (λ u k. k .0) (λ u k. (k, k)) (@is-range .ensures) (@admit-ids .ensures) (@if1 .left) (@zero-words .ensures) (@narrow .ensures) (@zero-words2 .ensures) (same-narrow _ (start .args .lower) (start .args .upper) (start .args .id .0) (@wide .ensures .0)) (@answer-of .ensures))
 
 pub narrow-spec : {M : Type 1} → statement M
 narrow-spec =

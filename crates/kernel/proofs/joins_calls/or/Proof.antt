@@ -8,16 +8,16 @@ use Rattle.kernel.proofs.joins_calls.or.Statement.{statement}
 use Rattle.kernel.proofs.joins_calls.or.Tie as tie
 
 returns : tie.Need-returns
-returns c = ids-refused _ _ _ _ _ _ _ _ (λ u k. k) (λ u k. k) asks-none (c .before .before .before .admit-ids .ensures) (c .before .if1 .taken) (c .refused .ensures)
+returns c = ids-refused _ _ _ _ _ _ _ _ (λ u k. k) (λ u k. k) asks-none (@admit-ids .ensures) (@if1 .taken) (@refused .ensures)
 
 or-requires : tie.Need-or-requires
 or-requires c κs =
-    let l = ids-lent asks-none (c .before .before .before .before .before .before .before .before .before .before .before .before .admit-ids .ensures) (c .before .before .before .before .before .before .before .before .before .before .if1 .left) in
-    let m = c .before .before .before .before .before .before .before .before .before .before .before .before .before .before .before .before .before .before .before .before .before .args .memo .now in
-    (ready-zeroed (l .0) (cleared-long m (c .before .before .before .before .before .before .before .zero-words .ensures) ∙ l .1) (cleared m (c .before .before .before .before .before .before .before .zero-words .ensures)), l .2 .0, l .2 .1)
+    let l = ids-lent asks-none (@admit-ids .ensures) (@if1 .left) in
+    let m = @args .memo .now in
+    (ready-zeroed (l .0) (cleared-long m (@zero-words .ensures) ∙ l .1) (cleared m (@zero-words .ensures)), l .2 .0, l .2 .1)
 
 returns-2 : tie.Need-returns-2
-returns-2 c = ids-answered _ _ _ _ _ _ _ _ (λ u k. k) (λ u k. k) asks-none (c .before .before .before .before .before .before .before .before .before .before .before .before .before .before .before .before .before .before .before .before .before .before .before .before .before .before .before .admit-ids .ensures) (c .before .before .before .before .before .before .before .before .before .before .before .before .before .before .before .before .before .before .before .before .before .before .before .before .before .if1 .left) (c .before .before .before .before .before .before .before .before .before .before .before .before .before .before .before .before .before .before .before .before .before .before .zero-words .ensures) (c .before .before .before .before .before .before .before .before .before .before .before .before .before .before .or .ensures .worked) (c .before .before .before .zero-words2 .ensures) refl (c .answer-of .ensures)
+returns-2 c = ids-answered _ _ _ _ _ _ _ _ (λ u k. k) (λ u k. k) asks-none (@admit-ids .ensures) (@if1 .left) (@zero-words .ensures) (@or .ensures .worked) (@zero-words2 .ensures) refl (@answer-of .ensures)
 
 pub or-spec : {M : Type 1} → statement M
 or-spec =
