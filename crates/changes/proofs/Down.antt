@@ -29,10 +29,10 @@ use Rattle.making.specs.Outcome.{Outcome, tableOf, Mergeable}
 use Rattle.views.specs.declared.View.{View}
 use Rattle.views.specs.Seeing.{Asked, Inside, Views, childSeen, cutSeen, seen}
 use Rattle.views.proofs.Sights.{known-held, views-rising, views-kids, call-left}
-use Rattle.walks.specs.Recalling.{Hit}
+use Rattle.memo.specs.Recalling.{Hit}
 use Rattle.walks.specs.Walking.{Ready, Stepped}
 use Rattle.changes.specs.Turning.{NodeOver, over}
-use Rattle.walks.proofs.Recalled.{hit-was-noted}
+use Rattle.memo.proofs.Recalled.{hit-was-noted}
 use Rattle.walks.proofs.Composing.{Grows, lent-sound, ready-readable, stepped-adds-nothing, stepped-of-outcome, stepped-equal-want}
 use Rattle.walks.proofs.Booleans.{inside-all-children}
 use Rattle.changes.proofs.Gathering.{Gather, Side, gather-starts, edge-inside, kid-asked, gather-step, gather-falls, gathered-mergeable, stepped-when-gathered}

@@ -3,7 +3,7 @@ use mathlib.Core.Path.{_≡_, refl, sym, _∙_, ap, ap₂, subst}
 use mathlib.Core.Bool.{Bool, true, false, not, cond}
 use mathlib.Core.List.{List}
 use mathlib.Core.Logic.{⊎-elim}
-use Prim.Native.Nat.{ℕ, suc, _+_, _-_, _/_, _≤_, _<_}
+use Prim.Native.Nat.{ℕ, suc, _+_, _-_, _*_, _/_, _≤_, _<_}
 use native.Mathlib.Omega.{arith}
 use native.Mathlib.Decide.{ℕ-discrete}
 use lib.ListN.{length, getD, set, length-set}
@@ -14,29 +14,39 @@ use Rattle.ids.specs.Id.{TRUE}
 use Rattle.diagram.specs.Pieces.{Pieces, Each, Rising, Reduced, run}
 use Rattle.diagram.specs.Table.{variables, firstBoolean, isRange, topOf, Table, Assignment}
 use Rattle.diagram.specs.Room.{mostEdges, Fits}
-use Rattle.diagram.specs.Sound.{Child, Sound, Continues}
+use Rattle.diagram.specs.Sound.{Known, Child, Sound, Continues}
 use Rattle.diagram.proofs.Continuing.{continues-child}
 use Rattle.diagram.proofs.Numbered.{run-shift}
 use Rattle.algebra.specs.Making.{create-node}
 use Rattle.algebra.specs.Conjunction.{walkIn, create-over}
 use Rattle.algebra.proofs.Made.{Made}
-use Rattle.table.specs.Layout.{room, Store}
+use Rattle.algebra.proofs.Making.{created}
+use Rattle.table.specs.Layout.{mostNodes, room, MemoLengths, Store}
 use Rattle.table.proofs.Laws.{lt-or-le, not-false-and-true}
 use Rattle.merging.proofs.Turning.{turn, tableAt, answerAt, table-next, answer-at-turn, walk-run-by-turns, turn-inside, turn-inj, turn-turn, answer-child, not-fits-turn-full, each-of-run, rising-same-cuts}
 use Rattle.views.specs.declared.View.{View}
 use Rattle.views.specs.Seeing.{Asked, Inside, childSeen, cutSeen, seen}
-use Rattle.views.proofs.Sights.{seen-each, childSeen-stays, cutSeen-stays}
+use Rattle.views.proofs.Sights.{known-used, seen-each, childSeen-stays, cutSeen-stays}
 use Rattle.making.specs.declared.edges.Edge.{Edge}
 use Rattle.making.specs.declared.edges.Edges as built
 use Rattle.making.specs.declared.nodes.Used.{Used}
 use Rattle.making.specs.declared.nodes.Made as code
 use Rattle.making.specs.Building.{Building, none, childIn, cutIn, piecesOf}
-use Rattle.making.specs.Outcome.{Stays, Outcome, Mergeable, tableOf}
+use Rattle.making.specs.Outcome.{Lent, Stays, Outcome, Mergeable, tableOf}
 use Rattle.making.proofs.Kept.{stays-refl, stays-trans, stays-continues}
+use Rattle.memo.specs.Recalling.{Framed}
 use Rattle.walks.specs.Walking.{Note, Ready, Stepped}
 use Rattle.changes.specs.Turning.{NodeOver, over}
-use Rattle.walks.proofs.Composing.{Grows, lent-sound, ready-after-step, stepped-then-outcome, stepped-equal-want, stepped-with-note}
+use Rattle.walks.proofs.Composing.{Grows, lent-sound, known-small, ready-after-step, stepped-then-outcome, stepped-equal-want, stepped-with-note}
 use Rattle.walks.proofs.Booleans.{asked-kid}
+
+-- What the memo asks of an answer that was made here and is to be noted.
+pub made-notes : {h : Used} {st : Store} {index memo : List ℕ} → Lent h st index → MemoLengths (length memo) (room (st .nodes)) → Framed memo → {x : ℕ} → x < 262144 → {u : ℕ} {es : built.Edges} → Mergeable (tableOf h st) u es
+    → {m : code.Made} {st′ : Store} {index′ : List ℕ} → Outcome h (create-node (tableOf h st) u (piecesOf es)) m st st′ index′ → m .ok ≡ true
+    → (8 ≤ length memo) × (length memo ≤ mostNodes * 8) × Framed memo × (x < 262144) × (TRUE < 262144) × (m .id .0 < 262144) × (u < variables)
+made-notes {h} {st} l q f k {u} {es} e {m} {st′} o ok =
+    let c : Known (tableOf (m .used) st′) (m .id .0) = rw (o .table ok, o .id ok) (created (tableOf h st) (lent-sound l) u (e .known) (piecesOf es) (e .rises) (e .kids) .made .child .0) in
+    (omega (arith, q .some-sets), omega (arith, q .sets, q .most-sets, l .allowed .most-nodes), f, k, omega arith, known-small (o .lent) (known-used st′ (m .used .nodes) (m .id .0) c), e .known)
 
 module _ (f : Table → ℕ → Table × ℕ) (h : Used) (st : Store) (memo : List ℕ) (a : View) (u : ℕ) where
   abbrev t : Table

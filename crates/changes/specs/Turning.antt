@@ -14,7 +14,7 @@ use Rattle.making.specs.declared.nodes.Used.{Used}
 use Rattle.making.specs.declared.nodes.Made.{Made}
 use Rattle.making.specs.Building.{piecesOf}
 use Rattle.making.specs.Outcome.{Outcome, Untouched, tableOf}
-use Rattle.walks.specs.Recalling.{Overwritten}
+use Rattle.memo.specs.Recalling.{Noted}
 
 -- The node of variable v over one side, an operation being done on each child, in one of the two orders.
 unfoldable pub over : Bool → (Table → ℕ → Table × ℕ) → Table → ℕ → Pieces ℕ → Table × ℕ
@@ -24,5 +24,5 @@ over back f t v e = create-over v (walkIn back f t e)
 pub record NodeOver (ok : Bool) (h : Used) (x u : ℕ) (es : built.Edges) (st : Store) (index memo : List ℕ) (r : Made) (st′ : Store) (index′ memo′ : List ℕ) : Type 0 where
   pub nothing : ok ≡ false → (r .ok ≡ false) × (r .used ≡ h) × Untouched st index st′ index′ × (memo′ ≡ memo)
   pub made : ok ≡ true → Outcome h (create-node (tableOf h st) u (piecesOf es)) r st st′ index′
-  pub noted : ok ≡ true → r .ok ≡ true → Overwritten memo x TRUE (r .id .0) memo′
+  pub noted : ok ≡ true → r .ok ≡ true → Noted memo x TRUE (r .id .0) memo′
   pub not-noted : ok ≡ true → r .ok ≡ false → memo′ ≡ memo

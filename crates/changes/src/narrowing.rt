@@ -9,10 +9,10 @@ ghost use Rattle.diagram.specs.Table.{firstBoolean, variables};
 ghost use Rattle.diagram.specs.Cofactor.{edgesOf};
 ghost use Rattle.algebra.specs.Making.{create-node};
 ghost use Rattle.algebra.specs.Changing.{isBefore, narrow as narrows};
-ghost use Rattle.table.specs.Layout.{room, store};
+ghost use Rattle.table.specs.Layout.{room, MemoLengths, store};
 ghost use Rattle.making.specs.Outcome.{Lent, Outcome, tableOf};
 ghost use Rattle.views.specs.Seeing.{Asked};
-ghost use Rattle.walks.specs.Recalling.{Cleared};
+ghost use Rattle.memo.specs.Recalling.{Cleared};
 ghost use Rattle.walks.specs.Walking.{Ready, Stepped, Worked};
 ghost use Rattle.changes.specs.Changed.{Changed, changed, narrowing};
 use super::turns::cut_of;
@@ -50,7 +50,7 @@ pub fn narrow(
     lower: Bound,
     upper: Bound,
 ) -> Made
-    requires { ⌜ (Lent used (store (now nodes) (now children) (now cuts)) (now index)) × (length (now memo) ≡ room (now nodes) * 3) × (Cleared (now memo)) × (KnownTo (used .nodes) (id .0)) × (v < firstBoolean) ⌝ }
+    requires { ⌜ (Lent used (store (now nodes) (now children) (now cuts)) (now index)) × (MemoLengths (length (now memo)) (room (now nodes))) × (Cleared (now memo)) × (KnownTo (used .nodes) (id .0)) × (v < firstBoolean) ⌝ }
     ensures { λ r. ⌜ Worked used (narrows (tableOf used (store (now (nodes .entry)) (now (children .entry)) (now (cuts .entry)))) v lower upper (id .0)) r (store (now (nodes .entry)) (now (children .entry)) (now (cuts .entry))) (now (index .entry)) (now (memo .entry)) (store (now (nodes .exit)) (now (children .exit)) (now (cuts .exit))) (now (index .exit)) (now (memo .exit)) ⌝ }
 {
     // Open ends first: the walk would change nothing, and go through the whole diagram to find it so.

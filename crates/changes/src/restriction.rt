@@ -5,10 +5,10 @@ ghost use lib.ListN.{length};
 ghost use Rattle.ids.specs.Index.{KnownTo};
 ghost use Rattle.diagram.specs.Table.{firstBoolean, variables};
 ghost use Rattle.algebra.specs.Changing.{restrict as restriction};
-ghost use Rattle.table.specs.Layout.{room, store};
+ghost use Rattle.table.specs.Layout.{room, MemoLengths, store};
 ghost use Rattle.making.specs.Outcome.{Lent, tableOf};
 ghost use Rattle.views.specs.Seeing.{Asked};
-ghost use Rattle.walks.specs.Recalling.{Cleared};
+ghost use Rattle.memo.specs.Recalling.{Cleared};
 ghost use Rattle.walks.specs.Walking.{Ready, Stepped, Worked};
 ghost use Rattle.changes.specs.Changed.{Changed, changed, restricting};
 use super::turns::cut_of;
@@ -43,7 +43,7 @@ pub fn restrict(
     v: usize,
     value: bool,
 ) -> Made
-    requires { ⌜ (Lent used (store (now nodes) (now children) (now cuts)) (now index)) × (length (now memo) ≡ room (now nodes) * 3) × (Cleared (now memo)) × (KnownTo (used .nodes) (id .0)) × (v < variables) ⌝ }
+    requires { ⌜ (Lent used (store (now nodes) (now children) (now cuts)) (now index)) × (MemoLengths (length (now memo)) (room (now nodes))) × (Cleared (now memo)) × (KnownTo (used .nodes) (id .0)) × (v < variables) ⌝ }
     ensures { λ r. ⌜ Worked used (restriction (tableOf used (store (now (nodes .entry)) (now (children .entry)) (now (cuts .entry)))) v value (id .0)) r (store (now (nodes .entry)) (now (children .entry)) (now (cuts .entry))) (now (index .entry)) (now (memo .entry)) (store (now (nodes .exit)) (now (children .exit)) (now (cuts .exit))) (now (index .exit)) (now (memo .exit)) ⌝ }
 {
     if v < FIRST_BOOLEAN {

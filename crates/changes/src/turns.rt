@@ -5,7 +5,8 @@ ghost use mathlib.Core.Bool.{true, false, cond};
 ghost use Prim.Native.Nat.{_+_, _-_, _*_, _≤_, _<_};
 ghost use lib.ListN.{length};
 ghost use Rattle.diagram.specs.Table.{isRange};
-ghost use Rattle.table.specs.Layout.{room, store};
+ghost use Rattle.table.specs.Layout.{room, MemoLengths, store};
+ghost use Rattle.memo.specs.Recalling.{ids, Framed};
 ghost use Rattle.making.specs.Outcome.{Lent, Mergeable, tableOf};
 ghost use Rattle.views.specs.Seeing.{Inside, cutSeen};
 ghost use Rattle.changes.specs.Turning.{NodeOver};
@@ -66,7 +67,7 @@ pub fn node_over(
     u: usize,
     es: Edges,
 ) -> Made
-    requires { ⌜ (Lent used (store (now nodes) (now children) (now cuts)) (now index)) × (length (now memo) ≡ room (now nodes) * 3) × (ok ≡ true → Mergeable (tableOf used (store (now nodes) (now children) (now cuts))) u es) ⌝ }
+    requires { ⌜ (Lent used (store (now nodes) (now children) (now cuts)) (now index)) × (MemoLengths (length (now memo)) (room (now nodes))) × (Framed (now memo)) × (x .0 < ids) × (ok ≡ true → Mergeable (tableOf used (store (now nodes) (now children) (now cuts))) u es) ⌝ }
     ensures { λ r. ⌜ NodeOver ok used (x .0) u es (store (now (nodes .entry)) (now (children .entry)) (now (cuts .entry))) (now (index .entry)) (now (memo .entry)) r (store (now (nodes .exit)) (now (children .exit)) (now (cuts .exit))) (now (index .exit)) (now (memo .exit)) ⌝ }
 {
     if !ok {

@@ -15,19 +15,19 @@ use Rattle.table.specs.Layout.{store}
 
 returns : tie.Need-returns
 returns c =
-    let start = @Start in
-    worked-adds-nothing (start .pre .0) _ (restrict-range-unchanged (tableOf (start .args .used) (store (start .args .nodes .now) (start .args .children .now) (start .args .cuts .now))) (start .args .v) (start .args .value) (start .args .id .0) (lt-ltb _ _ (@if1 .taken)))
+    let start = c .before .before .before .before .before in
+    worked-adds-nothing (start .pre .0) (start .pre .2) _ (restrict-range-unchanged (tableOf (start .args .used) (store (start .args .nodes .now) (start .args .children .now) (start .args .cuts .now))) (start .args .v) (start .args .value) (start .args .id .0) (lt-ltb _ _ (c .if1 .taken)))
 
 restrict-from-requires : tie.Need-restrict-from-requires
-restrict-from-requires c κs = (ready-zeroed (@pre .0) (@pre .1) (@pre .2), asked-of-all-known (@pre .3), omega arith, (@pre .4))
+restrict-from-requires c κs = (ready-zeroed (c .before .before .before .before .before .before .before .before .before .before .pre .0) (c .before .before .before .before .before .before .before .before .before .before .pre .1) (c .before .before .before .before .before .before .before .before .before .before .pre .2), asked-of-all-known (c .before .before .before .before .before .before .before .before .before .before .pre .3), omega arith, (c .before .before .before .before .before .before .before .before .before .before .pre .4))
 
 same-length-5 : tie.Need-same-length-5
-same-length-5 c = (@restrict-from .ensures .long)
+same-length-5 c = (c .before .before .before .before .before .before .before .before .before .before .before .before .before .before .before .before .before .before .before .before .before .restrict-from .ensures .long)
 
 returns-2 : tie.Need-returns-2
 returns-2 c =
-    let start = @Start in
-    worked-when-finished (start .pre .0) (stepped-equal-want (@restrict-from .ensures) (sym (restrict-is-change (tableOf (start .args .used) (store (start .args .nodes .now) (start .args .children .now) (start .args .cuts .now))) (start .args .v) (start .args .value) (start .args .id .0) (le-ltb _ _ (@if1 .left))))) (@finish .ensures)
+    let start = c .before .before .before .before .before .before .before .before .before .before .before .before .before .before .before .before .before .before .before .before .before .before .before .before .before .before .before .before .before .before .before .before in
+    worked-when-finished (start .pre .0) (stepped-equal-want (c .before .before .before .before .before .before .before .before .before .before .before .before .before .before .before .before .before .before .before .before .before .restrict-from .ensures) (sym (restrict-is-change (tableOf (start .args .used) (store (start .args .nodes .now) (start .args .children .now) (start .args .cuts .now))) (start .args .v) (start .args .value) (start .args .id .0) (le-ltb _ _ (c .before .before .before .before .before .before .before .before .before .before .before .before .before .before .before .before .before .before .before .before .before .before .before .before .before .before .before .if1 .left))))) (c .before .before .before .before .before .before .before .finish .ensures)
 
 pub restrict-spec : {M : Type 1} → statement M
 restrict-spec =

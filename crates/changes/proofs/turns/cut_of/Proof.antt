@@ -6,10 +6,10 @@ use Rattle.changes.proofs.turns.cut_of.Statement.{statement}
 use Rattle.changes.proofs.turns.cut_of.Tie as tie
 
 returns : tie.Need-returns
-returns c = λ g. (@cut .ensures .0) g ∙ sym (cutSeen-range (@args .cuts .now) (@args .u) (@args .a) (@args .i) (@if1 .taken))
+returns c = λ g. (c .cut .ensures .0) g ∙ sym (cutSeen-range (c .before .before .args .cuts .now) (c .before .before .args .u) (c .before .before .args .a) (c .before .before .args .i) (c .before .if1 .taken))
 
 returns-2 : tie.Need-returns-2
-returns-2 c = λ g. sym (cutSeen-bool (@args .cuts .now) (@args .u) (@args .a) (@args .i) (@if1 .left))
+returns-2 c = λ g. sym (cutSeen-bool (c .before .args .cuts .now) (c .before .args .u) (c .before .args .a) (c .before .args .i) (c .if1 .left))
 
 pub cut-of-spec : {M : Type 1} → statement M
 cut-of-spec = tie.close (tie.spec

@@ -10,28 +10,28 @@ use Rattle.walks.proofs.Composing.{lent-readable}
 
 view-at-requires : tie.Need-view-at-requires
 view-at-requires c κs =
-    let pre· = @pre in
+    let pre· = c .before .before .before .before .pre in
     record-inside (lent-readable (pre· .0)) _ (pre· .1)
 
 widened-requires : tie.Need-widened-requires
 widened-requires c κs =
-    let pre· = @pre in
-    (view-inside (pre· .0) (sees-views (lent-readable (pre· .0)) _ (pre· .1) (is-variable (pre· .3)) (@view-at .ensures)), (pre· .0 .allowed .cut-each), (pre· .4), (pre· .5))
+    let pre· = c .before .before .before .before .before .before .before .pre in
+    (view-inside (pre· .0) (sees-views (lent-readable (pre· .0)) _ (pre· .1) (is-variable (pre· .3)) (c .before .before .view-at .ensures)), (pre· .0 .allowed .cut-each), (pre· .4), (pre· .5))
 
 returns : tie.Need-returns
 returns c =
-    let pre· = @pre in
-    widen-full (pre· .0) (sees-views (lent-readable (pre· .0)) _ (pre· .1) (is-variable (pre· .3)) (@view-at .ensures)) (pre· .1) (pre· .2) (pre· .3) _ (pre· .4) (pre· .5) (@widened .ensures) (not-true _ (@if1 .taken)) _
+    let pre· = c .before .before .before .before .before .before .before .before .before .before .pre in
+    widen-full (pre· .0) (sees-views (lent-readable (pre· .0)) _ (pre· .1) (is-variable (pre· .3)) (c .before .before .before .before .before .view-at .ensures)) (pre· .1) (pre· .2) (pre· .3) _ (pre· .4) (pre· .5) (c .before .before .widened .ensures) (not-true _ (c .if1 .taken)) _
 
 settle-requires : tie.Need-settle-requires
 settle-requires c κs =
-    let pre· = @pre in
-    ((pre· .0), widen-buildable (pre· .0) (sees-views (lent-readable (pre· .0)) _ (pre· .1) (is-variable (pre· .3)) (@view-at .ensures)) (pre· .1) (pre· .2) (pre· .3) _ (pre· .4) (pre· .5) (@widened .ensures) (not-false _ (@if1 .left)))
+    let pre· = c .before .before .before .before .before .before .before .before .before .before .before .before .before .before .before .pre in
+    ((pre· .0), widen-buildable (pre· .0) (sees-views (lent-readable (pre· .0)) _ (pre· .1) (is-variable (pre· .3)) (c .before .before .before .before .before .before .before .before .before .before .view-at .ensures)) (pre· .1) (pre· .2) (pre· .3) _ (pre· .4) (pre· .5) (c .before .before .before .before .before .before .before .widened .ensures) (not-false _ (c .before .before .before .before .before .if1 .left)))
 
 returns-2 : tie.Need-returns-2
 returns-2 c =
-    let pre· = @pre in
-    outcome-as (@settle .ensures .outcome) (widen-settles (pre· .0) (sees-views (lent-readable (pre· .0)) _ (pre· .1) (is-variable (pre· .3)) (@view-at .ensures)) (pre· .1) (pre· .2) (pre· .3) _ (pre· .4) (pre· .5) (@widened .ensures) (not-false _ (@if1 .left)))
+    let pre· = c .before .before .before .before .before .before .before .before .before .before .before .before .before .before .before .before .before .before .before .before .before .before .before .pre in
+    outcome-as (c .before .before .before .before .before .before .before .settle .ensures .outcome) (widen-settles (pre· .0) (sees-views (lent-readable (pre· .0)) _ (pre· .1) (is-variable (pre· .3)) (c .before .before .before .before .before .before .before .before .before .before .before .before .before .before .before .before .before .before .view-at .ensures)) (pre· .1) (pre· .2) (pre· .3) _ (pre· .4) (pre· .5) (c .before .before .before .before .before .before .before .before .before .before .before .before .before .before .before .widened .ensures) (not-false _ (c .before .before .before .before .before .before .before .before .before .before .before .before .before .if1 .left)))
 
 pub widen-here-spec : {M : Type 1} → statement M
 widen-here-spec =
