@@ -1,9 +1,9 @@
 -- What the proofs of the calls that are given ids and are lent a memo hand their facts to: what is found before any work, and each row.
 -- Assumes nothing.
-use mathlib.Core.Path.{_≡_, refl, sym, _∙_, ap}
+use mathlib.Core.Path.{_≡_, refl, sym, _∙_, ap, subst}
 use mathlib.Core.Bool.{Bool, true, false, cond}
 use mathlib.Core.List.{List}
-use Prim.Native.Nat.{ℕ, _*_}
+use Prim.Native.Nat.{ℕ, _≤_}
 use native.Mathlib.Omega.{arith}
 use lib.ListN.{length, replicate, length-replicate}
 use lib.IntN.{ℤ}
@@ -11,20 +11,20 @@ use Rattle.ids.specs.Id.{FALSE}
 use Rattle.ranges.specs.declared.bounds.Bound.{Bound}
 use Rattle.diagram.specs.Table.{Table}
 use Rattle.algebra.specs.Changing.{restrict, narrow, widen}
-use Rattle.table.specs.Layout.{room, Store}
+use Rattle.table.specs.Layout.{room, MemoLengths, Store}
 use Rattle.table.specs.Deciding.{Decides}
 use Rattle.table.specs.Told.{done}
 use Rattle.table.proofs.Laws.{decided-true, decided-false}
 use Rattle.making.specs.declared.nodes.Used.{Used}
 use Rattle.making.specs.declared.nodes.Made.{Made}
 use Rattle.making.specs.Outcome.{Lent, tableOf}
-use Rattle.walks.specs.Recalling.{Cleared}
+use Rattle.memo.specs.Recalling.{Framed, Cleared}
 use Rattle.walks.specs.Walking.{Worked}
 use Rattle.kernel.specs.Makes.{wrongVariable, noRoom, made-1, made-3, made-4, BothKnown, WithMemo}
 use Rattle.kernel.specs.Admitting.{Admits, not-lent, admitted, AdmitsIds, ids-not-long, ids-not-lent, ids-not-known, ids-not-kind, ids-admitted}
 use Rattle.kernel.proofs.Handing.{check-refuses, outcome-told}
 
-module _ {st : Store} {index : List ℕ} {n x y : ℕ} {kind : Bool} (long : n ≡ room (st .nodes) * 3) where
+module _ {st : Store} {index : List ℕ} {n x y : ℕ} {kind : Bool} (long : MemoLengths n (room (st .nodes))) where
   -- the table is refused
   pub ids-refuse-table : {h : Used} {k : ℕ} → Admits st index true k h → (k ≡ done → ⊥) → AdmitsIds st index n x y kind k h
   ids-refuse-table (not-lent b h c f) g = ids-not-lent kind h long c f
@@ -39,7 +39,7 @@ module _ {st : Store} {index : List ℕ} {n x y : ℕ} {kind : Bool} (long : n �
 
 -- what a call may work on
 pub ids-lent : {kind : Type 0} {st : Store} {index : List ℕ} {n x y : ℕ} {b : Bool} {k : ℕ} {h : Used} → Decides kind b → AdmitsIds st index n x y b k h → k ≡ done
-    → Lent h st index × (n ≡ room (st .nodes) * 3) × BothKnown x y (h .nodes) × kind
+    → Lent h st index × MemoLengths n (room (st .nodes)) × BothKnown x y (h .nodes) × kind
 ids-lent d (ids-not-long b h f) g = absurd (omega arith)
 ids-lent d (ids-not-lent b h e c f) g = absurd (f g)
 ids-lent d (ids-not-known b h e l f) g = absurd (omega arith)
@@ -50,8 +50,16 @@ ids-lent d (ids-admitted h e l a) g = (l, e, a, decided-true d refl)
 pub cleared-long : {zeros : List ℕ} (memo : List ℕ) → zeros ≡ replicate (length memo) 0 → length zeros ≡ length memo
 cleared-long memo z = ap length z ∙ length-replicate (length memo) 0
 
+pub cleared-lent : {zeros : List ℕ} (memo : List ℕ) {r : ℕ} → zeros ≡ replicate (length memo) 0 → MemoLengths (length memo) r → MemoLengths (length zeros) r
+cleared-lent memo {r} z l = subst (λ (n : ℕ). MemoLengths n r) (sym (cleared-long memo z)) l
+
 pub cleared : {zeros : List ℕ} (memo : List ℕ) → zeros ≡ replicate (length memo) 0 → Cleared zeros
 cleared memo z = z ∙ ap (λ (i : ℕ). replicate i 0) (sym (cleared-long memo z))
+
+-- and what an operation leaves can be cleared again
+pub clear-asked : {zeros : List ℕ} (memo : List ℕ) {r : ℕ} → zeros ≡ replicate (length memo) 0 → MemoLengths (length memo) r
+    → {h : Used} {want : Table × ℕ} {m : Made} {st : Store} {index : List ℕ} {st′ : Store} {index′ memo′ : List ℕ} → Worked h want m st index zeros st′ index′ memo′ → (1 ≤ length memo′) × Framed memo′
+clear-asked memo z l w = (omega (arith, l .some-sets, w .long, cleared-long memo z), w .framed)
 
 -- A call says in its own words that its ids are known.
 module _ (known : ℕ → Type 0) (kind : Type 0) (want : Table → Table × ℕ) (st : Store) (index memo : List ℕ) (x y : ℕ)

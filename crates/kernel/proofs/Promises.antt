@@ -27,7 +27,7 @@ use Rattle.algebra.specs.Answering.{Answers}
 use Rattle.algebra.specs.Narrowing.{AtNearest, Steady, EmptyAnswer}
 use Rattle.algebra.proofs.Emptied.{Changing, not-steady, steady-or-changing}
 use Rattle.algebra.proofs.Promises.{from-range-answers, comparison-answers, from-bool-answers, and-answers, or-answers, disjoint-exactly, restrict-answers, restrict-range, narrow-answers, narrow-empty-answers, widen-answers, fits-exactly}
-use Rattle.table.specs.Layout.{room, Store}
+use Rattle.table.specs.Layout.{room, MemoLengths, Store}
 use Rattle.table.specs.Lent.{SoundLent}
 use Rattle.table.specs.Held.{held}
 use Rattle.table.specs.Told.{done, Allowed}
@@ -267,6 +267,6 @@ pub memo-never-believed : (known : ℕ → Type 0) (kind : Type 0) (want : Table
     → WithMemo st index memo known kind want k id st′ index′ z → WithMemo st index memo″ known kind want k″ id″ st″ index″ z″
     → (k ≡ k″) × (id ≡ id″) × (st′ ≡ st″) × (index′ ≡ index″)
 memo-never-believed known kind want st index memo memo″ e o o″ =
-    let w = with-memo {lent″ = Lending st index memo″} (λ l. (l .0, sym e ∙ l .1)) (λ l. (l .0, e ∙ l .1)) known kind want st index memo memo″ o in
+    let w = with-memo {lent″ = Lending st index memo″} (λ l. (l .0, subst (λ (n : ℕ). MemoLengths n (room (st .nodes))) e (l .1))) (λ l. (l .0, subst (λ (n : ℕ). MemoLengths n (room (st .nodes))) (sym e) (l .1))) known kind want st index memo memo″ o in
     let q = makes-once (Lending st index memo″) known kind want st index memo″ (w .1) o″ in
     (q .0, q .1, q .2, q .3)

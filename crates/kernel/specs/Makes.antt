@@ -3,7 +3,7 @@
 use mathlib.Core.Path.{_≡_}
 use mathlib.Core.Bool.{Bool, false}
 use mathlib.Core.List.{List, []}
-use Prim.Native.Nat.{ℕ, _*_, _≤_, _<_}
+use Prim.Native.Nat.{ℕ, _≤_, _<_}
 use lib.ListN.{length, replicate}
 use lib.IntN.{ℤ}
 use Rattle.ids.specs.Id.{FALSE}
@@ -18,7 +18,7 @@ use Rattle.algebra.specs.Conditions.{from-range, comparison, from-bool}
 use Rattle.algebra.specs.Conjunction.{and, or}
 use Rattle.algebra.specs.Changing.{restrict, narrow, widen}
 use Rattle.algebra.specs.Disjointness.{is-disjoint}
-use Rattle.table.specs.Layout.{room, Store}
+use Rattle.table.specs.Layout.{room, MemoLengths, Store}
 use Rattle.table.specs.Lent.{SoundLent}
 use Rattle.table.specs.Held.{held}
 use Rattle.table.specs.Told.{done, wrongRoom, notSound, unknownId, Allowed, Unsound}
@@ -100,10 +100,10 @@ module _ (st : Store) (index : List ℕ) where
   abbrev pub FromBool : ℕ → Outcomes
   FromBool v = Conditions ((firstBoolean ≤ v) × (v < variables)) (λ t. from-bool t v)
 
-  -- Conjunction, disjunction, restriction, narrowing and widening are lent a memo: three words for each node record.
+  -- Conjunction, disjunction, restriction, narrowing and widening are lent a memo.
   module _ (memo : List ℕ) where
     abbrev pub Lending : Type 0
-    Lending = Allowed st index × (length memo ≡ room (st .nodes) * 3)
+    Lending = Allowed st index × MemoLengths (length memo) (room (st .nodes))
 
     abbrev pub WithMemo : (ℕ → Type 0) → Type 0 → (Table → Table × ℕ) → MemoOutcomes
     WithMemo known kind want number id st′ index′ memo′ = Makes Lending known kind want st index memo number id st′ index′ memo′

@@ -51,19 +51,23 @@ pub fn in_order(x: NodeId, y: NodeId) -> Pair
     }
 }
 
-// How soon an entry goes when its set is full, by the variable of its pair: the largest number goes first. Pairs at every fourth variable are
-// checkpoints, which stay longest: where they do, what is walked again between two of them is three levels deep.
+// How long an entry stays, by the variable of its pair: of a full set the smallest word is written over, an empty one before every entry. Pairs
+// at every eighth variable are checkpoints that stay longest, then those at every fourth and every second: where checkpoints stay, what
+// is walked again lies between two of them.
 fn rank_of(v: usize) -> u64
     requires { ⌜ v < variables ⌝ }
     ensures { λ r. ⌜ r < 256 ⌝ }
 {
+    if v % 8 == 0 {
+        return 255 - v as u64;
+    }
     if v % 4 == 0 {
-        return v as u64;
+        return 191 - v as u64;
     }
     if v % 2 == 0 {
-        return v as u64 + 64;
+        return 127 - v as u64;
     }
-    v as u64 + 128
+    63 - v as u64
 }
 
 // An entry, in one word: from the top its rank, two ids, and the answer for them.
@@ -131,14 +135,6 @@ pub fn recall(memo: &[u64], x: NodeId, y: NodeId) -> Settled
     }
 }
 
-// The rank of a word that may be written over: an empty one goes before every entry.
-fn rank_in(w: u64) -> u64 {
-    if w == 0 {
-        return 1024;
-    }
-    w / (PAIRS * IDS)
-}
-
 // The first word of a set that may hold an entry: not the head.
 fn past_head(at: usize) -> usize
     ensures { λ r. ⌜ (1 ≤ r) × (at ≤ r) × (r ≤ at + 1) ⌝ }
@@ -149,19 +145,19 @@ fn past_head(at: usize) -> usize
     at
 }
 
-// The word of a set that is written over: an empty one, else one of the largest rank.
+// The word of a set that is written over: the smallest. An empty word is 0, and a rank stands in the highest bits.
 fn word_to_give(memo: &[u64], at: usize) -> usize
     requires { ⌜ at + 8 ≤ length (now memo) ⌝ }
     ensures { λ r. ⌜ (1 ≤ r) × (r < at + 8) ⌝ }
 {
     let end = at + MEMO_WORDS;
     let mut i = past_head(at);
-    let mut most = 0;
     let mut to = i;
+    let mut least = memo[i];
     while i < end {
-        let rank = rank_in(memo[i]);
-        if most <= rank {
-            most = rank;
+        let w = memo[i];
+        if w < least {
+            least = w;
             to = i;
         }
         i += 1;

@@ -9,10 +9,10 @@ use Rattle.memo.proofs.word_to_give.Statement.{statement}
 use Rattle.memo.proofs.word_to_give.Tie as tie
 
 abbrev Inv-loop : tie.InvT-loop
-Inv-loop memo at end i₀ most₀ to₀ i most to = (i ≤ end) × (end ≡ at + 8) × (end ≤ length memo) × (1 ≤ to) × (to < end) × (1 ≤ i)
+Inv-loop memo at end i₀ to₀ least₀ i to least = (i ≤ end) × (end ≡ at + 8) × (end ≤ length memo) × (1 ≤ to) × (to < end) × (1 ≤ i)
 
 abbrev μ-loop : tie.MeasureT-loop
-μ-loop memo at end i₀ most₀ to₀ i most to = end - i
+μ-loop memo at end i₀ to₀ least₀ i to least = end - i
 
 loop-less : tie.Need-loop-less Inv-loop μ-loop
 loop-less c = omega arith
@@ -31,7 +31,8 @@ word-to-give-spec =
     (λ c. search needs)
     (λ c. search needs)
     (λ c. search needs)
-    (λ c κs. search needs)
+    (λ c. search needs)
+    (λ c. search needs)
     (λ c. search needs)
     loop-less
     loop-again

@@ -6,10 +6,10 @@ use Rattle.kernel.proofs.admission.both_known.Statement.{statement}
 use Rattle.kernel.proofs.admission.both_known.Tie as tie
 
 returns : tie.Need-returns
-returns c = decides-second (known-when-true _ _ (@is-known .ensures) (@if1 .taken)) (decides-known _ _ (@is-known2 .ensures))
+returns c = decides-second (known-when-true _ _ (c .before .before .is-known .ensures) (c .before .if1 .taken)) (decides-known _ _ (c .is-known2 .ensures))
 
 returns-2 : tie.Need-returns-2
-returns-2 c = decides-first (@if1 .left) (unknown-when-false _ _ (@is-known .ensures) (@if1 .left))
+returns-2 c = decides-first (c .if1 .left) (unknown-when-false _ _ (c .before .is-known .ensures) (c .if1 .left))
 
 pub both-known-spec : {M : Type 1} → statement M
 both-known-spec =

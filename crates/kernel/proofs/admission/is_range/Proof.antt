@@ -6,7 +6,9 @@ use Rattle.kernel.proofs.admission.is_range.Statement.{statement}
 use Rattle.kernel.proofs.admission.is_range.Tie as tie
 
 returns : tie.Need-returns
-returns c = decides-below firstBoolean (@wide .ensures .0)
+returns c = decides-below firstBoolean (c .wide .ensures .0)
 
 pub is-range-spec : {M : Type 1} → statement M
-is-range-spec = tie.close (tie.spec (λ c κs. search needs) returns)
+is-range-spec = tie.close (tie.spec
+    (λ c κs. search needs)
+    returns)

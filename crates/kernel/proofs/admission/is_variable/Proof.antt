@@ -6,7 +6,9 @@ use Rattle.kernel.proofs.admission.is_variable.Statement.{statement}
 use Rattle.kernel.proofs.admission.is_variable.Tie as tie
 
 returns : tie.Need-returns
-returns c = decides-below variables (@wide .ensures .0)
+returns c = decides-below variables (c .wide .ensures .0)
 
 pub is-variable-spec : {M : Type 1} → statement M
-is-variable-spec = tie.close (tie.spec (λ c κs. search needs) returns)
+is-variable-spec = tie.close (tie.spec
+    (λ c κs. search needs)
+    returns)

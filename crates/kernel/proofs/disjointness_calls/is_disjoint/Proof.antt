@@ -11,28 +11,28 @@ use Rattle.kernel.proofs.disjointness_calls.is_disjoint.Statement.{stat
 use Rattle.kernel.proofs.disjointness_calls.is_disjoint.Tie as tie
 
 returns : tie.Need-returns
-returns c = check-says-no _ _ _ _ (@check .ensures) (@if1 .taken)
+returns c = check-says-no _ _ _ _ (c .before .before .check .ensures) (c .if1 .taken)
 
 both-known-requires : tie.Need-both-known-requires
 both-known-requires c κs =
-    let p = passed-check-sound _ _ (@check .ensures) (@if1 .left) in
+    let p = passed-check-sound _ _ (c .before .before .check .ensures) (c .if1 .left) in
     omega (arith, p .1 .records .fits, p .0 .most-nodes)
 
 returns-2 : tie.Need-returns-2
 returns-2 c =
-    let p = passed-check-sound _ _ (@check .ensures) (@if1 .left) in
-    disjoint-3 (p .0) _ (p .1) (decided-false (@both-known .ensures) (not-true _ (@if2 .taken)))
+    let p = passed-check-sound _ _ (c .before .before .before .before .check .ensures) (c .before .before .if1 .left) in
+    disjoint-3 (p .0) _ (p .1) (decided-false (c .before .both-known .ensures) (not-true _ (c .if2 .taken)))
 
 is-disjoint-requires : tie.Need-is-disjoint-requires
 is-disjoint-requires c κs =
-    let p = passed-check-sound _ _ (@check .ensures) (@if1 .left) in
-    let k = decided-true (@both-known .ensures) (not-false _ (@if2 .left)) in
+    let p = passed-check-sound _ _ (c .before .before .before .before .check .ensures) (c .before .before .if1 .left) in
+    let k = decided-true (c .before .both-known .ensures) (not-false _ (c .if2 .left)) in
     (sound-readable _ _ _ (p .0) (p .1), asked-of-all-known (k .0), asked-of-all-known (k .1))
 
 returns-3 : tie.Need-returns-3
 returns-3 c =
-    let p = passed-check-sound _ _ (@check .ensures) (@if1 .left) in
-    disjoint-it _ _ _ _ (p .0) (p .1) (decided-true (@both-known .ensures) (not-false _ (@if2 .left))) (@is-disjoint .ensures)
+    let p = passed-check-sound _ _ (c .before .before .before .before .before .check .ensures) (c .before .before .before .if1 .left) in
+    disjoint-it _ _ _ _ (p .0) (p .1) (decided-true (c .before .before .both-known .ensures) (not-false _ (c .before .if2 .left))) (c .is-disjoint .ensures)
 
 pub is-disjoint-spec : {M : Type 1} → statement M
 is-disjoint-spec =
