@@ -130,7 +130,8 @@ module _ (t : Table) (z : Sound t) (v x y : ℕ) (hv : v < variables) (kx : Chil
         right = value-edge t z v y hv ky (i .assigned) p ∙ i .right;
       })
 
-answered : (n : ℕ) (t : Table) → Sound t → (u x y : ℕ) → Child t u x → Child t u y → variables < u + n → Answer t x y (disjoint n t x y)
+-- with more levels than there are variables from u on
+pub answered : (n : ℕ) (t : Table) → Sound t → (u x y : ℕ) → Child t u x → Child t u y → variables < u + n → Answer t x y (disjoint n t x y)
 unfolding disjoint disjoint-step
 answered zero t z u x y kx ky h = absurd (omega (arith, var-most t z (ref x) (kx .0), kx .1))
 answered (suc n) t z u x y kx ky h = go (eqb x 1 || (eqb y 1 || eqb (flip x) y)) refl (eqb x 0 || (eqb y 0 || eqb x y)) refl (λ c d. answered n t z (suc v) c d)

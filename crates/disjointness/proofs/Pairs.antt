@@ -9,18 +9,17 @@ use lib.IntN.{ℤ}
 use Rattle.diagram.specs.Pieces.{Pieces, last}
 use Rattle.diagram.specs.Table.{firstBoolean, Table}
 use Rattle.algebra.specs.Disjointness.{disjoint}
-use Rattle.table.specs.Held.{held}
 use Rattle.table.proofs.Laws.{lt-or-le}
 use Rattle.views.specs.Seeing.{childSeen, seen}
 use Rattle.views.specs.declared.View.{View}
 use Rattle.views.proofs.Sights.{seen-one, seen-two, first-seen}
-use Rattle.disjointness.specs.Asking.{apart, AskedSides}
+use Rattle.disjointness.specs.Asking.{whole, apart, AskedSides}
 use Rattle.disjointness.proofs.Overlaps.{apart-not, apart-left-last, apart-right-last, apart-both, apart-one}
 use Rattle.table.specs.Layout.{Store}
 
-module _ {st : Store} {u n : ℕ} {a b : View} (s : AskedSides st u firstBoolean n a b) where
+module _ {st : Store} {noted : List ℕ} {n : ℕ} {a b : View} (s : AskedSides st noted firstBoolean n a b) where
   abbrev t : Table
-  t = held st u
+  t = whole st
 
   abbrev A : Pieces ℕ
   A = seen (st .children) (st .cuts) firstBoolean a 0
@@ -40,8 +39,8 @@ module _ {st : Store} {u n : ℕ} {a b : View} (s : AskedSides st u firstBoolean
         sym (apart-not n t A B (ap₂ (λ (c d : ℕ). disjoint n t c d) p r ∙ (sym high ∙ h)))
 
     -- yes of the high children leaves it to the low ones
-    pub high-yes : {w z : ℕ} {r : Bool} → q ≡ true → a .count ≤ 2 → b .count ≤ 2 → w ≡ childSeen (st .children) a (a .count - 1) → z ≡ childSeen (st .children) b (b .count - 1) → r ≡ disjoint n t w z → r ≡ apart n t A B
-    high-yes {w} {z} {r} h ha hb ew ez er = er ∙ (ap₂ (λ (c d : ℕ). disjoint n t c d) ew ez ∙ sym (⊎-elim (λ o. ⊎-elim (one-one o) (one-two o) (two-at-most b (s .right .some) hb)) (λ o. ⊎-elim (two-one o) (two-two o) (two-at-most b (s .right .some) hb)) (two-at-most a (s .left .some) ha)))
+    pub high-yes : {w z : ℕ} {r : Bool} → q ≡ true → w ≡ childSeen (st .children) a (a .count - 1) → z ≡ childSeen (st .children) b (b .count - 1) → r ≡ disjoint n t w z → r ≡ apart n t A B
+    high-yes {w} {z} {r} h ew ez er = er ∙ (ap₂ (λ (c d : ℕ). disjoint n t c d) ew ez ∙ sym (⊎-elim (λ o. ⊎-elim (one-one o) (one-two o) (two-at-most b (s .right .some) (s .two-edges (omega arith) .1))) (λ o. ⊎-elim (two-one o) (two-two o) (two-at-most b (s .right .some) (s .two-edges (omega arith) .1))) (two-at-most a (s .left .some) (s .two-edges (omega arith) .0))))
       where
         two-at-most : (v : View) → 1 ≤ v .count → v .count ≤ 2 → (v .count ≡ 1) ⊎ (v .count ≡ 2)
         two-at-most v l m = ⊎-elim (λ o. inl (omega arith)) (λ o. inr (omega arith)) (lt-or-le (v .count) 2)

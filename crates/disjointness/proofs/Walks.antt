@@ -7,15 +7,14 @@ use Prim.Native.Nat.{ℕ, _+_, _≤_, _<_}
 use native.Mathlib.Omega.{arith}
 use lib.ListN.{length}
 use lib.IntN.{ℤ}
-use Rattle.diagram.specs.Pieces.{Pieces, first, Each}
+use Rattle.diagram.specs.Pieces.{Pieces}
 use Rattle.diagram.specs.Table.{topOf, Table}
 use Rattle.algebra.specs.Disjointness.{disjoint}
-use Rattle.table.specs.Held.{held}
 use Rattle.table.proofs.Laws.{lt-or-le}
-use Rattle.views.specs.Seeing.{Asked, Readable, beyond, childSeen, cutSeen, seen, Inside}
+use Rattle.views.specs.Seeing.{Readable, beyond, childSeen, cutSeen, seen, Inside}
 use Rattle.views.specs.declared.View.{View}
 use Rattle.views.proofs.Sights.{seen-last, seen-cut, seen-each, rising-cut, inside-wider, first-seen}
-use Rattle.disjointness.specs.Asking.{apart, AskedSides}
+use Rattle.disjointness.specs.Asking.{whole, apart, Listed, AskedIn, AskedPair, AskedSides}
 use Rattle.disjointness.proofs.Overlaps.{apart-not, apart-left, apart-left-last, apart-right, apart-right-last, apart-both, apart-one}
 use Rattle.table.specs.Layout.{Store}
 
@@ -27,9 +26,14 @@ Ends cuts w j k = (j + 1 < w .count → k ≡ cutSeen cuts 0 w j) × (w .count �
 more-edges : (cuts : List ℤ) (w : View) (j k l : ℕ) → Ends cuts w j k → l ≤ beyond → k < l → j + 1 < w .count
 more-edges cuts w j k l e h g = ⊎-elim (λ m. m) (λ m. absurd (omega (arith, e .1 m))) (lt-or-le (j + 1) (w .count))
 
--- a child of a view may be asked about
-pub asked-child : (children : List ℕ) (cuts : List ℤ) (t : Table) (u v n j x : ℕ) (w : View) → Each (Asked t u n) (seen children cuts v w 0) → j < w .count → x ≡ childSeen children w j → Asked t u n x
-asked-child children cuts t u v n j x w e h q = subst (Asked t u n) (sym q) (seen-each children cuts v w (Asked t u n) e j h)
+-- a child of each side may be asked about, with what the memo has become
+pub children-asked : {st : Store} {noted noted′ : List ℕ} {v n i j x y : ℕ} {a b : View} → AskedSides st noted v n a b → Listed st noted′
+    → i < a .count → j < b .count → x ≡ childSeen (st .children) a i → y ≡ childSeen (st .children) b j → AskedPair st noted′ n x y
+children-asked {st} {v = v} {n} {i} {j} {a = a} {b} s l hi hj ex ey = record {
+  listed = l;
+  left = subst (AskedIn st n) (sym ex) (seen-each (st .children) (st .cuts) v a (AskedIn st n) (s .left-asked) i hi);
+  right = subst (AskedIn st n) (sym ey) (seen-each (st .children) (st .cuts) v b (AskedIn st n) (s .right-asked) j hj);
+}
 
 -- a view lies within the cuts as it lies within the children
 pub cuts-inside : {st : Store} {u : ℕ} {w : View} → Readable st u → Inside (length (st .children)) w → Inside (length (st .cuts)) w
@@ -49,9 +53,18 @@ pub record Turned (n : ℕ) (t : Table) (children : List ℕ) (cuts : List ℤ) 
 pub turned-at : {n : ℕ} {t : Table} {children : List ℕ} {cuts : List ℤ} {a b : View} {i j z : ℕ} → z ≡ j → Turned n t children cuts a b i j → Turned n t children cuts a b i z
 turned-at {n} {t} {children} {cuts} {a} {b} {i} e h = subst (λ (k : ℕ). Turned n t children cuts a b i k) (sym e) h
 
-module _ {st : Store} {u n : ℕ} {a b : View} (s : AskedSides st u 0 n a b) where
+-- where a loop is, beside a memo that is still true and as long as it was
+pub record Beside (st : Store) (noted₀ noted : List ℕ) (Here : Type 0) : Type 0 where
+  pub here : Here
+  pub listed : Listed st noted
+  pub long : length noted ≡ length noted₀
+
+pub beside-at : {st : Store} {noted z : List ℕ} {Here : Type 0} (noted₀ : List ℕ) → z ≡ noted → Listed st noted → length noted ≡ length noted₀ → Here → Beside st noted₀ z Here
+beside-at {st} noted₀ e l h w = record { here = w; listed = subst (Listed st) (sym e) l; long = ap length e ∙ h }
+
+module _ {st : Store} {noted : List ℕ} {n : ℕ} {a b : View} (s : AskedSides st noted 0 n a b) where
   abbrev t : Table
-  t = held st u
+  t = whole st
 
   pub walk-starts : Turned n t (st .children) (st .cuts) a b 0 0
   walk-starts = record { going = λ h. record { inside = omega (arith, s .right .some); same = refl }; over = λ h. absurd (omega (arith, s .left .some)) }

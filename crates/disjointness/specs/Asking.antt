@@ -1,27 +1,60 @@
--- What disjointness asks of a lent table, and what it answers of edges. Document 01, step 6. Assumes nothing.
-use mathlib.Core.Bool.{Bool}
+-- What disjointness asks of a lent table and of its memo, and what it answers. Document 01, step 6. Assumes nothing.
+use mathlib.Core.Path.{_≡_}
+use mathlib.Core.Bool.{Bool, false, _&&_}
 use mathlib.Core.List.{List}
-use Prim.Native.Nat.{ℕ}
+use Prim.Native.Nat.{ℕ, _*_, _≤_}
 use lib.ListN.{length}
-use lib.IntN.{ℤ}
 use Rattle.diagram.specs.Pieces.{Pieces, Each, Rising}
-use Rattle.diagram.specs.Table.{topOf, Table}
+use Rattle.diagram.specs.Table.{firstBoolean, topOf, Table, Assignment, value}
 use Rattle.algebra.specs.Overlay.{overlay}
 use Rattle.algebra.specs.Disjointness.{every, disjoint}
+use Rattle.table.specs.Layout.{mostNodes, Store}
 use Rattle.table.specs.Held.{held}
-use Rattle.views.specs.Seeing.{Asked, seen, Inside}
+use Rattle.memo.specs.Recalling.{Memo}
+use Rattle.views.specs.Seeing.{usedIn, Readable, Asked, seen, Inside}
 use Rattle.views.specs.declared.View.{View}
-use Rattle.table.specs.Layout.{Store}
+
+-- The table that is held.
+abbrev pub whole : Store → Table
+whole st = held st (usedIn (st .nodes))
 
 -- "The answer is no at the first overlapping pair of edges whose children aren't disjoint."
 unfoldable pub apart : ℕ → Table → Pieces ℕ → Pieces ℕ → Bool
 apart n t e f = every (λ p. disjoint n t (p .0) (p .1)) (overlay e f)
 
+-- No assignment makes both true: what an entry says of its pair. Only such pairs are noted, and so the entry's answer says nothing.
+abbrev pub Excluding : Table → ℕ → ℕ → ℕ → Type 0
+Excluding t x y z = (α : Assignment) → (value t α x && value t α y) ≡ false
+
+-- A table that can be read, and a memo of pairs that exclude each other in it.
+pub record Listed (st : Store) (noted : List ℕ) : Type 0 where
+  pub readable : Readable st (usedIn (st .nodes))
+  pub long : 8 ≤ length noted
+  pub most : length noted ≤ mostNodes * 8
+  pub pairs : Memo (Excluding (whole st)) noted
+
+-- An id that is known, with fewer than n variables ahead.
+abbrev pub AskedIn : Store → ℕ → ℕ → Type 0
+AskedIn st n id = Asked (whole st) (usedIn (st .nodes)) n id
+
+-- Two such ids.
+pub record AskedPair (st : Store) (noted : List ℕ) (n x y : ℕ) : Type 0 where
+  pub listed : Listed st noted
+  pub left : AskedIn st n x
+  pub right : AskedIn st n y
+
 -- Two views at one variable: their cuts rise, and each child may be asked about. v is that variable, or another of its kind.
-pub record AskedSides (st : Store) (u v n : ℕ) (a b : View) : Type 0 where
+pub record AskedSides (st : Store) (noted : List ℕ) (v n : ℕ) (a b : View) : Type 0 where
+  pub listed : Listed st noted
   pub left : Inside (length (st .children)) a
   pub right : Inside (length (st .children)) b
   pub left-rises : Rising 0 (topOf v) (seen (st .children) (st .cuts) v a 0)
   pub right-rises : Rising 0 (topOf v) (seen (st .children) (st .cuts) v b 0)
-  pub left-asked : Each (Asked (held st u) u n) (seen (st .children) (st .cuts) v a 0)
-  pub right-asked : Each (Asked (held st u) u n) (seen (st .children) (st .cuts) v b 0)
+  pub left-asked : Each (AskedIn st n) (seen (st .children) (st .cuts) v a 0)
+  pub right-asked : Each (AskedIn st n) (seen (st .children) (st .cuts) v b 0)
+  pub two-edges : firstBoolean ≤ v → (a .count ≤ 2) × (b .count ≤ 2)
+
+-- The answer is the one that is wanted, and what the memo says afterwards is still true.
+pub record Answers (st : Store) (noted : List ℕ) (want r : Bool) : Type 0 where
+  pub right : r ≡ want
+  pub listed : Listed st noted

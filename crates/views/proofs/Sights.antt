@@ -24,15 +24,15 @@ use Rattle.diagram.proofs.Lookup.{at-end}
 use Rattle.diagram.proofs.Facts.{var-most}
 use Rattle.diagram.proofs.Readings.{bool-top}
 use Rattle.diagram.proofs.Cofactors.{edge-own, edge-other, edges-are-kids, edges-rising}
-use Rattle.table.specs.Layout.{varAt, countAt, firstAt, kidAt, cutAt, cutPosition, start, Store}
-use Rattle.table.specs.Lent.{Rules, SoundLent}
+use Rattle.table.specs.Layout.{varAt, countAt, firstAt, kidAt, cutAt, cutPosition, room, start, Store}
+use Rattle.table.specs.Lent.{Rules, SoundRecords, SoundLent}
 use Rattle.table.specs.Held.{edgesFrom, nodeAt, held}
 use Rattle.table.specs.Told.{Allowed}
 use Rattle.table.proofs.Laws as laws
 use Rattle.table.proofs.Scan.{table-length}
 use Rattle.table.proofs.Bridge.{edges-run, range-edges, bool-edges, at-held, sound-held}
 use Rattle.table.proofs.Promises.{edges-fit}
-use Rattle.views.specs.Seeing.{Readable, Asked, childSeen, cutSeen, seen, Inside, Sees, Views}
+use Rattle.views.specs.Seeing.{usedTo, usedIn, Readable, Asked, childSeen, cutSeen, seen, Inside, Sees, Views}
 use Rattle.views.specs.declared.View.{View}
 
 module _ (children : List ℕ) (cuts : List ℤ) (v : ℕ) (w : View) where
@@ -214,6 +214,15 @@ known-used st u id h = let l = table-length st u in omega arith
 -- a sound lent table can be read
 pub sound-readable : (st : Store) (index : List ℕ) (u : ℕ) → Allowed st index → SoundLent st index u → Readable st u
 sound-readable st index u a s = record { fits = omega (arith, s .records .fits); cut-each = a .cut-each; small = omega (arith, s .records .fits, a .most-nodes); rules = s .records .rules; sound = sound-held st index u s }
+
+-- its words say how many records it uses
+pub used-is : {st : Store} {u : ℕ} → SoundRecords st u → usedIn (st .nodes) ≡ u
+unfolding usedTo
+used-is {st} {u} s = up-to (room (st .nodes)) (s .fits)
+  where
+    up-to : (n : ℕ) → u ≤ n → usedTo (st .nodes) n ≡ u
+    up-to zero h = omega arith
+    up-to (suc n) h = ⊎-elim (λ l. rw (ne-eqb (countAt (st .nodes) n) 0 (λ e. omega (arith, s .rules n (omega arith) .many))) (omega arith)) (λ l. rw (s .no-node (n * 4 + 1) (omega arith)) (up-to n l)) (laws.lt-or-le n u)
 
 -- with more levels than there are variables, every known id may be asked about
 pub asked-of-all-known : {t : Table} {u id : ℕ} → KnownTo u id → Asked t u (variables + 1) id

@@ -2,7 +2,7 @@
 use mathlib.Core.Path.{_≡_}
 use mathlib.Core.Bool.{cond}
 use mathlib.Core.List.{List}
-use Prim.Native.Nat.{ℕ, _+_, _-_, _*_, _≤_, _<_}
+use Prim.Native.Nat.{ℕ, zero, suc, _+_, _-_, _*_, _≤_, _<_}
 use lib.Dec.{eqb}
 use lib.ListN.{length}
 use lib.IntN.{ℤ}
@@ -13,16 +13,24 @@ use Rattle.diagram.specs.Table.{variables, isRange, Table, at}
 use Rattle.diagram.specs.Cofactor.{edgesOf}
 use Rattle.diagram.specs.Room.{mostEdges}
 use Rattle.diagram.specs.Sound.{Sound}
-use Rattle.table.specs.Layout.{varAt, countAt, firstAt, kidAt, cutAt, cutPosition, start, Store}
+use Rattle.table.specs.Layout.{mostNodes, varAt, countAt, firstAt, kidAt, cutAt, cutPosition, room, start, Store}
 use Rattle.table.specs.Lent.{Rules}
 use Rattle.table.specs.Held.{held}
 use Rattle.views.specs.declared.View.{View}
+
+-- How many records are used: up to the last that has edges.
+unfoldable pub usedTo : List ℕ → ℕ → ℕ
+usedTo nodes zero = 0
+usedTo nodes (suc n) = cond (eqb (countAt nodes n) 0) (usedTo nodes n) (suc n)
+
+abbrev pub usedIn : List ℕ → ℕ
+usedIn nodes = usedTo nodes (room nodes)
 
 -- A table that can be read: each of its u records keeps the rules, and they hold a sound table.
 pub record Readable (st : Store) (u : ℕ) : Type 0 where
   pub fits : u * 4 ≤ length (st .nodes)
   pub cut-each : length (st .cuts) ≡ length (st .children)
-  pub small : u < 4294967296
+  pub small : u ≤ mostNodes
   pub rules : (n : ℕ) → n < u → Rules st n
   pub sound : Sound (held st u)
 
