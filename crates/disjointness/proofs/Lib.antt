@@ -3,3 +3,4 @@ pub mod Overlaps
 pub mod Walks
 pub mod Pairs
 pub mod Opening
+pub mod Whole

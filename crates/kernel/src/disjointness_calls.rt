@@ -9,6 +9,9 @@ use table::told::DONE;
 use table::told::Told;
 use table::told::UNKNOWN_ID;
 
+// The words of the memo. It is a local array, since the caller lends none; a pair that finds no place in it costs time alone.
+const NOTED_WORDS: usize = 512;
+
 // Whether no reading makes both ids true. "Disjointness and reading borrow no memo and change nothing."
 pub fn is_disjoint(
     nodes: &[u32],
@@ -33,6 +36,7 @@ pub fn is_disjoint(
             yes: false,
         };
     }
-    let yes = disjointness::is_disjoint(nodes, children, cuts, c.nodes, x, y, VARIABLES + 1);
+    let mut noted = [0; NOTED_WORDS];
+    let yes = disjointness::is_disjoint(nodes, children, cuts, &mut noted, x, y, VARIABLES + 1);
     Told { number: DONE, yes }
 }
