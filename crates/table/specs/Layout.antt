@@ -64,7 +64,7 @@ pub record Lengths (nodes children cuts index : ℕ) : Type 0 where
   pub some-edges : 2 ≤ children
   pub most-edges : children ≤ mostEdgeRoom
   pub cut-each : cuts ≡ children
-  pub indexed : index ≡ nodes / 4 * 2
+  pub indexed : index ≡ nodes / 4 * 4
 
 -- A stored cut by its position, from 1 to 2^33, and 0 for a number that is no cut.
 abbrev pub cutPosition : ℤ → ℕ
