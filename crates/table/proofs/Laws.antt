@@ -284,6 +284,10 @@ judged-no (unsound x) e = x
 pub or-zero : (a b : ℕ) → bitOr a b ≡ 0 → (a ≡ 0) × (b ≡ 0)
 or-zero a b e = (omega (arith, or-add-and a b, and-le-r a b), omega (arith, or-add-and a b, and-le-l a b))
 
+-- and so are cuts, by their bits
+pub no-bits : {z : ℤ} → SFits w64 z → ofZ w64 z ≡ 0 → z ≡ pos 0
+no-bits f e = same-bits f zero-fits e
+
 pub zero-or : (a b : ℕ) → a ≡ 0 → b ≡ 0 → bitOr a b ≡ 0
 zero-or a b p q = omega (arith, or-add-and a b)
 

@@ -55,10 +55,10 @@ pub fn edges_precede(children: &[u32], cuts: &[i64], a: usize, b: usize, count: 
     requires { ⌜ (count ≤ mostEdges) × (a + count ≤ length (now children)) × (b + count ≤ length (now children)) × (length (now cuts) ≡ length (now children)) × ((j : ℕ) → j < count → Cut (cutAt (now cuts) (a + j))) × ((j : ℕ) → j < count → Cut (cutAt (now cuts) (b + j))) ⌝ }
     ensures { λ r. ⌜ r ≡ less (runAt (now (children .entry)) (now (cuts .entry)) a 0 count) (runAt (now (children .entry)) (now (cuts .entry)) b 0 count) ⌝ }
 {
-    let mut j = 0;
-    while j < count {
-        let x = child_at(children, a + j);
-        let y = child_at(children, b + j);
+    let mut i = 0;
+    while i < count {
+        let x = child_at(children, a + i);
+        let y = child_at(children, b + i);
         if x < y {
             return true;
         }
@@ -66,13 +66,13 @@ pub fn edges_precede(children: &[u32], cuts: &[i64], a: usize, b: usize, count: 
             return false;
         }
         // Cuts as they are stored: all of them lie between the end places, so they stand as their positions do.
-        if lower_at(cuts, a + j, b + j) {
+        if lower_at(cuts, a + i, b + i) {
             return true;
         }
-        if lower_at(cuts, b + j, a + j) {
+        if lower_at(cuts, b + i, a + i) {
             return false;
         }
-        j += 1;
+        i += 1;
     }
     false
 }

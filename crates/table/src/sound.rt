@@ -78,7 +78,8 @@ pub fn is_linked(
         return false;
     }
     let other = word(index, rooms * 3 + m);
-    if scaled(other, rooms) != bucket {
+    let home = scaled(other, rooms);
+    if home != bucket {
         return false;
     }
     // In order along each link: so no two nodes of a bucket are the same, and no walk along its chain is needed to see that.

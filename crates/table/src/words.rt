@@ -152,17 +152,6 @@ pub fn one_for(x: usize) -> usize
     1
 }
 
-// 1 where cut i is not empty.
-pub fn one_at(cuts: &[i64], i: usize) -> usize
-    requires { ⌜ i < length (now cuts) ⌝ }
-    ensures { λ r. ⌜ (r ≤ 1) × Decides (cutAt (now (cuts .entry)) i ≡ pos 0) (eqb r 0) ⌝ }
-{
-    if blank_at(cuts, i) {
-        return 0;
-    }
-    1
-}
-
 // Whether the words from `from` to `to` are zero: gathered, and not left early, so that the compiler reads many at once.
 pub fn zeros_between(words: &[u32], from: usize, to: usize) -> bool
     requires { ⌜ (from ≤ to) × (to ≤ length (now words)) ⌝ }
@@ -190,18 +179,18 @@ pub fn zeros_from(words: &[u32], from: usize) -> bool
     zeros_between(words, from, end)
 }
 
-// Whether the cuts from `from` on are zero: counted, for the same reason.
+// Whether the cuts from `from` on are zero, gathered in the same way.
 pub fn blanks_from(cuts: &[i64], from: usize) -> bool
     requires { ⌜ from ≤ length (now cuts) ⌝ }
     ensures { λ r. ⌜ Decides ((i : ℕ) → from ≤ i → getD (now (cuts .entry)) i (pos 0) ≡ pos 0) r ⌝ }
 {
-    let mut full = 0;
+    let mut all: i64 = 0;
     let mut i = from;
     while i < cuts.len() {
-        full += one_at(cuts, i);
+        all |= cuts[i];
         i += 1;
     }
-    if full == 0 {
+    if all == 0 {
         return true;
     }
     false

@@ -49,7 +49,8 @@ returns-4 c =
     let n = (c .before .before .before .before .before .before .before .before .before .before .before .before .before .args .n) in
     let m = (c .before .before .before .before .before .before .before .word2 .result) - 1 in
     let u : m < (c .before .before .before .before .before .before .before .before .before .before .before .before .before .args .u) = laws.one-less (c .before .before .before .before .before .before .if1 .left) (c .before .before .before .before .before .if2 .left) in
-    fails (λ p. (c .if4 .taken) ((c .before .scaled2 .ensures .0) ∙ (bucket-hash st m ((c .before .before .word3 .ensures .0) ∙ (c .before .before .before .before .before .before .before .before .before .before .before .before .before .pre .3) m u .hashed) ∙ (linked-follows st (now (c .before .before .before .before .before .before .before .before .before .before .before .before .before .args .index)) (c .before .before .before .before .before .before .before .before .before .before .before .before .before .args .u) n m (laws.one-more (c .before .before .before .before .before .before .before .word2 .ensures .0) (c .before .before .before .before .before .before .if1 .left)) p .bucket ∙ sym ((c .before .before .before .before .before .before .before .before .scaled .ensures .0) ∙ bucket-hash st n ((c .before .before .before .before .before .before .before .before .before .word .ensures .0) ∙ (c .before .before .before .before .before .before .before .before .before .before .before .before .before .pre .3) n (c .before .before .before .before .before .before .before .before .before .before .before .before .before .pre .2) .hashed))))))
+    let e = linked-follows st (now (c .before .before .before .before .before .before .before .before .before .before .before .before .before .args .index)) (c .before .before .before .before .before .before .before .before .before .before .before .before .before .args .u) n m (laws.one-more (c .before .before .before .before .before .before .before .word2 .ensures .0) (c .before .before .before .before .before .before .if1 .left)) in
+    fails (λ p. omega (arith, (c .if4 .taken), (c .before .scaled2 .ensures .0) ∙ (bucket-hash st m ((c .before .before .word3 .ensures .0) ∙ (c .before .before .before .before .before .before .before .before .before .before .before .before .before .pre .3) m u .hashed) ∙ (e p .bucket ∙ sym ((c .before .before .before .before .before .before .before .before .scaled .ensures .0) ∙ bucket-hash st n ((c .before .before .before .before .before .before .before .before .before .word .ensures .0) ∙ (c .before .before .before .before .before .before .before .before .before .before .before .before .before .pre .3) n (c .before .before .before .before .before .before .before .before .before .before .before .before .before .pre .2) .hashed))))))
 
 comes-before-requires : tie.Need-comes-before-requires
 comes-before-requires c κs =
