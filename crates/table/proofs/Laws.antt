@@ -7,9 +7,9 @@ use mathlib.Core.Logic.{_⊎_, inl, inr, ⊎-elim}
 use Prim.Native.Nat.{ℕ, zero, suc, _+_, _-_, _*_, _/_, _≤_, _<_, _^_}
 use native.Mathlib.Omega.{arith}
 use native.Mathlib.Nat.{eq-or-lt-of-le, mul-le-mul, mul-lt-mul-of-pos-right}
-use borrow.Author.Tests.{lt-ltb, le-ltb, ltb-true, ltb-false, eqb-true}
+use borrow.Author.Tests.{lt-ltb, le-ltb, ltb-true, ltb-false}
 use lib.Bits.{bitOr, or-add-and, and-le-l, and-le-r}
-use lib.Dec.{T, ltb, eqb, leb→le, le→leb}
+use lib.Dec.{T, ltb, leb→le, le→leb}
 use lib.ListN.{length, getD}
 use lib.IntN.{ℤ, pos, negsuc, _+ℤ_}
 use lib.Signed.{ltZ, _<ℤ_, ltZ-yes, leZ-yes}
@@ -237,20 +237,6 @@ tally-none F = refl
 pub some-one : (n : ℕ) → (n ≡ 0 → ⊥) → 1 ≡ some n
 some-one zero f = absurd (f refl)
 some-one (suc n) f = refl
-
--- a number that is 0 exactly when P holds
-pub given-yes : {P : Type 0} → P → Decides P (eqb 0 0)
-given-yes p = holds p
-
-pub given-no : {P : Type 0} → (P → ⊥) → Decides P (eqb 1 0)
-given-no n = fails n
-
-pub yes-zero : {P : Type 0} {r : ℕ} → Decides P (eqb r 0) → P → r ≡ 0
-yes-zero {P} {r} d p = go (eqb r 0) refl d
-  where
-    go : (b : Bool) → eqb r 0 ≡ b → Decides P b → r ≡ 0
-    go true e d = eqb-true r 0 e
-    go false e (fails n) = absurd (n p)
 
 -- Places.
 place-low : (z : ℤ) → ltZ z (negsuc 4294967296) ≡ true → Place z → ⊥

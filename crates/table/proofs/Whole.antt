@@ -14,7 +14,7 @@ use Rattle.chains.proofs.Lexical.{by-strict, by-level, key-tells, key-same}
 use Rattle.chains.proofs.Checked.{local-sorted, sorted-linked, sorted-local, sorted-differ}
 use Rattle.chains.proofs.Rows.{row-tally}
 use Rattle.table.specs.Deciding.{Decides, holds, fails}
-use Rattle.table.specs.Layout.{varAt, countAt, firstAt, kidAt, cutAt, room, start, cutPosition, Store}
+use Rattle.table.specs.Layout.{varAt, countAt, firstAt, room, start, cutPosition, Store}
 use Rattle.table.specs.Indexed.{hashTo, hashAt, bucketAt, keyAt, precedes}
 use Rattle.table.specs.Lent.{SameRun, SameRecord, SoundLent}
 use Rattle.table.specs.Checking.{Judges, sound, unsound, Recorded, LinkedAt, Rest}

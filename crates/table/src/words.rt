@@ -4,7 +4,6 @@ ghost use Prim.Native.Nat.{ℕ, suc, _+_, _*_, _<_, _≤_};
 ghost use lib.ListN.{length, getD};
 ghost use lib.IntN.{pos};
 ghost use lib.Signed.{_<ℤ_};
-ghost use lib.Dec.{eqb};
 ghost use Rattle.table.specs.Deciding.{Decides};
 ghost use Rattle.table.specs.Layout.{mostNodes, varAt, countAt, firstAt, spareAt, kidAt, cutPosition, cutAt, Lengths};
 ghost use Rattle.chains.specs.Local.{some};

@@ -1,11 +1,9 @@
 -- `index::edges_precede` meets its contract. Assumes nothing.
-use Prim.Native.Nat.{ℕ, _<_, _≤_, _+_, _-_}
-use mathlib.Core.Path.{_≡_, refl, sym, _∙_}
+use Prim.Native.Nat.{_≤_, _-_}
+use mathlib.Core.Path.{_≡_, sym, _∙_}
 use native.Mathlib.Omega.{arith}
 use borrow.Author.Needs.{needs}
-use borrow.Author.Tests.{not-true, not-false}
 use Rattle.chains.specs.Lexical.{less}
-use Rattle.table.specs.Layout.{kidAt, cutAt}
 use Rattle.table.specs.Checking.{runAt}
 use Rattle.table.proofs.Laws as laws
 use Rattle.table.proofs.Ordered as ordered

@@ -1,7 +1,5 @@
 -- `words::lower_at` meets its contract. Assumes nothing.
-use lib.Signed.{_<ℤ_}
-use lib.IntN.{ℤ}
-use mathlib.Core.Path.{sym, subst}
+use mathlib.Core.Path.{sym}
 use borrow.Author.Needs.{needs}
 use Rattle.table.specs.Layout.{cutAt}
 use Rattle.table.proofs.Laws as laws

@@ -1,6 +1,5 @@
 -- `words::zeros_from` meets its contract. Assumes nothing.
 use mathlib.Core.Logic.{⊎-elim}
-use native.Mathlib.Omega.{arith}
 use borrow.Author.Needs.{needs}
 use lib.ListN.{length}
 use Rattle.table.proofs.Laws as laws
