@@ -107,5 +107,5 @@ all-cuts st n r j l = ⊎-elim range (λ h. bool j (r .booleans h) (omega (arith
     bool (suc zero) b k = zero-cut (b .low)
     bool (suc (suc j)) b k = absurd (omega arith)
 
-pub all-cuts-at : (st : Store) (n : ℕ) → Rules st n → {e c : ℕ} → e ≡ firstAt (st .nodes) n → c ≡ countAt (st .nodes) n → (j : ℕ) → j < c → Cut (cutAt (st .cuts) (e + j))
+pub all-cuts-at : (st : Store) (n : ℕ) → Rules st n → {e c : ℕ} → e ≡ firstAt (st .nodes) n → c ≤ countAt (st .nodes) n → (j : ℕ) → j < c → Cut (cutAt (st .cuts) (e + j))
 all-cuts-at st n r p q j l = subst (λ (i : ℕ). Cut (cutAt (st .cuts) (i + j))) (sym p) (all-cuts st n r j (omega arith))

@@ -38,11 +38,11 @@ edges-precede-requires c κs =
     let f = (c .before .before .before .if5 .left) in
     let g = (c .before .before .if6 .left) in (
       omega (arith, r .most),
-      omega (arith, r .inside),
-      omega (arith, s .inside),
+      omega (arith, r .inside, r .many),
+      omega (arith, s .inside, s .many),
       (c .before .before .before .before .before .before .before .before .before .before .before .before .before .before .pre .2),
-      ordered.all-cuts-at st (c .before .before .before .before .before .before .before .before .before .before .before .before .before .before .args .m) r a d,
-      ordered.all-cuts-at st (c .before .before .before .before .before .before .before .before .before .before .before .before .before .before .args .n) s b (omega arith),
+      ordered.all-cuts-at st (c .before .before .before .before .before .before .before .before .before .before .before .before .before .before .args .m) r a (omega (arith, r .many)),
+      ordered.all-cuts-at st (c .before .before .before .before .before .before .before .before .before .before .before .before .before .before .args .n) s b (omega (arith, s .many)),
     )
 
 returns-7 : tie.Need-returns-7
