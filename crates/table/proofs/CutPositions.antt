@@ -1,5 +1,5 @@
 -- Cuts by their positions: the rule that the check follows is document 01's rule. Assumes nothing.
-use mathlib.Core.Path.{_≡_, refl, subst}
+use mathlib.Core.Path.{_≡_, refl, sym, subst}
 use mathlib.Core.Bool.{Bool, true, false, cond}
 use mathlib.Core.List.{List}
 use Prim.Native.Nat.{ℕ, zero, suc, _+_, _-_, _<_, _^_}
@@ -32,6 +32,9 @@ is-cut (pos n) h = (leZ-yes tt, record { le = le→leb n (2 ^ 32 - 1) (omega (ar
     go true e h = ltb-true n (2 ^ 32) e
     go false e h = absurd (omega arith)
 is-cut (negsuc n) h = (record { le = le→leb n (2 ^ 32 - 1) (omega arith) }, leZ-yes tt)
+
+pub zero-cut : {z : ℤ} → z ≡ pos 0 → Cut z
+zero-cut e = subst Cut (sym e) (leZ-yes tt, leZ-yes tt)
 
 pub has-position : (z : ℤ) → Cut z → 0 < cutPosition z
 has-position (pos n) h = omega (arith, pos-cut n (cut-pos n h))

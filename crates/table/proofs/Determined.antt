@@ -11,27 +11,15 @@ use lib.IntN.{ℤ, pos}
 use Rattle.diagram.specs.Pieces.{Pieces, last, cut, count}
 use Rattle.diagram.specs.Table.{Node, Table, at}
 use Rattle.table.specs.Layout.{varAt, countAt, firstAt, kidAt, cutAt, room, start, cutPosition, Store}
-use Rattle.table.specs.Indexed.{bucketAt, LastIn}
+use Rattle.table.specs.Indexed.{keyAt}
 use Rattle.table.specs.Lent.{Rules, Blank, SoundLent}
 use Rattle.table.specs.Held.{nodeAt, held}
 use Rattle.table.proofs.Laws as laws
 use Rattle.table.proofs.CutPositions.{climbs}
-use Rattle.table.proofs.Chain.{Order, less, equal, more, lt-eq-or-gt}
+use Rattle.chains.proofs.Lexical.{by-strict}
+use Rattle.chains.proofs.Rows.{row-one}
 use Rattle.table.proofs.Scan.{table-length}
 use Rattle.table.proofs.Bridge.{count-from, kid-of, kid-from, cut-of, cut-from, range-edges, bool-edges, at-held, cut-position-one}
-
--- the index word is determined
-pub last-in-unique : (B : ℕ → ℕ) (b n x y : ℕ) → LastIn B b n x → LastIn B b n y → x ≡ y
-last-in-unique B b n x y p q = go (lt-eq-or-gt x y) p q
-  where
-    high : (x y : ℕ) → x < y → LastIn B b n x → LastIn B b n y → ⊥
-    high x zero l p q = omega arith
-    high x (suc m) l p q = p .none m (omega arith) (omega (arith, q .before)) (q .own m refl)
-
-    go : Order x y → LastIn B b n x → LastIn B b n y → x ≡ y
-    go (less l) p q = absurd (high x y l p q)
-    go (equal e) p q = e
-    go (more l) p q = absurd (high y x l q p)
 
 -- where an edge stands
 pub data Located (nodes : List ℕ) (u i : ℕ) : Type 0 where
@@ -164,14 +152,11 @@ module _ (st : Store) (index : List ℕ) (st' : Store) (index' : List ℕ) (u : 
 pub same-index : (st : Store) (index index' : List ℕ) (u : ℕ) → SoundLent st index u → SoundLent st index' u → length index ≡ length index' → index ≡ index'
 same-index st index index' u s s' long = ext-getD 0 index index' long (λ i l. cell i)
   where
-    B : ℕ → ℕ
-    B = bucketAt st
+    hash : (i n : ℕ) → i ≡ room (st .nodes) * 3 + n → getD index i 0 ≡ getD index' i 0
+    hash i n e = laws.getD-at-equal index i (room (st .nodes) * 3 + n) e ∙ (⊎-elim (λ l. s .indexed .hashes n l ∙ sym (s' .indexed .hashes n l)) (λ g. s .indexed .no-hash n g ∙ sym (s' .indexed .no-hash n g)) (laws.lt-or-le n u) ∙ sym (laws.getD-at-equal index' i (room (st .nodes) * 3 + n) e))
 
     cell : (i : ℕ) → getD index i 0 ≡ getD index' i 0
-    cell i = ⊎-elim (λ l. last-in-unique (bucketAt st) i u _ _ (s .indexed .heads i l) (s' .indexed .heads i l)) (λ g. ⊎-elim (λ l. next (i - room (st .nodes)) (omega arith) (omega arith)) (λ h. s .indexed .no-next i h ∙ sym (s' .indexed .no-next i h)) (laws.lt-or-le i (room (st .nodes) + u))) (laws.lt-or-le i (room (st .nodes)))
-      where
-        next : (n : ℕ) → i ≡ room (st .nodes) + n → n < u → getD index i 0 ≡ getD index' i 0
-        next n e l = laws.getD-at-equal index i (room (st .nodes) + n) e ∙ (last-in-unique (bucketAt st) (bucketAt st n) n _ _ (s .indexed .nexts n l) (s' .indexed .nexts n l) ∙ sym (laws.getD-at-equal index' i (room (st .nodes) + n) e))
+    cell i = ⊎-elim (λ l. row-one (by-strict (keyAt st)) (s .indexed .chains) (s' .indexed .chains) i l) (λ g. hash i (i - room (st .nodes) * 3) (omega arith)) (laws.lt-or-le i (room (st .nodes) * 3))
 
 -- words that are the same list by list
 pub same-store : {st st' : Store} → st .nodes ≡ st' .nodes → st .children ≡ st' .children → st .cuts ≡ st' .cuts → st ≡ st'

@@ -7,12 +7,12 @@ use mathlib.Core.Logic.{_⊎_, inl, inr, ⊎-elim}
 use Prim.Native.Nat.{ℕ, zero, suc, _+_, _-_, _*_, _/_, _≤_, _<_, _^_}
 use native.Mathlib.Omega.{arith}
 use native.Mathlib.Nat.{eq-or-lt-of-le, mul-le-mul, mul-lt-mul-of-pos-right}
-use borrow.Author.Tests.{lt-ltb, le-ltb, ltb-true, ltb-false, eqb-true}
+use borrow.Author.Tests.{lt-ltb, le-ltb, ltb-true, ltb-false}
 use lib.Bits.{bitOr, or-add-and, and-le-l, and-le-r}
-use lib.Dec.{ltb, eqb, leb→le, le→leb}
+use lib.Dec.{T, ltb, leb→le, le→leb}
 use lib.ListN.{length, getD}
 use lib.IntN.{ℤ, pos, negsuc, _+ℤ_}
-use lib.Signed.{ltZ, leZ-yes}
+use lib.Signed.{ltZ, _<ℤ_, ltZ-yes, leZ-yes}
 use Rattle.ranges.specs.Line.{Place}
 use mir.Syntax.{w64}
 use mir.Val.{SFits, ofZ, toZ}
@@ -22,7 +22,8 @@ use Rattle.table.specs.Deciding.{Decides, holds, fails}
 use Rattle.table.specs.Layout.{cutPosition, cutAt, kidAt, countAt, firstAt, start, Store}
 use Rattle.table.specs.Indexed.{hashTo, mix}
 use Rattle.table.specs.Lent.{SameRun, KidsStand, Blank, Rules, SoundLent}
-use Rattle.table.specs.Checking.{below, Down, here, there, Climbs, some, tally, Judges, sound, unsound}
+use Rattle.chains.specs.Local.{some, tally}
+use Rattle.table.specs.Checking.{below, Climbs, Judges, sound, unsound}
 
 pub not-false-and-true : {b : Bool} → b ≡ false → b ≡ true → ⊥
 not-false-and-true p q = let z : _≡_ {A = ℕ} 0 1 = cc in omega arith
@@ -48,6 +49,30 @@ lt-or-le a zero = inr (omega arith)
 lt-or-le zero (suc b) = inl (omega arith)
 lt-or-le (suc a) (suc b) = ⊎-elim (λ h. inl (omega arith)) (λ h. inr (omega arith)) (lt-or-le a b)
 
+-- the three ways that two numbers stand
+pub data Order (a b : ℕ) : Type 0 where
+  less : a < b → Order a b
+  equal : a ≡ b → Order a b
+  more : b < a → Order a b
+
+pub lt-eq-or-gt : (a b : ℕ) → Order a b
+lt-eq-or-gt a b = ⊎-elim (λ l. less l) (λ g. ⊎-elim (λ e. equal (sym e)) (λ m. more m) (eq-or-lt-of-le g)) (lt-or-le a b)
+
+-- a word that is not 0, and the number of the node that it names
+pub one-more : {w x : ℕ} → x ≡ w → (x ≡ 0 → ⊥) → w ≡ suc (x - 1)
+one-more {w} {x} e f = go x e f
+  where
+    go : (x : ℕ) → x ≡ w → (x ≡ 0 → ⊥) → w ≡ suc (x - 1)
+    go zero e f = absurd (f refl)
+    go (suc x) e f = omega arith
+
+pub one-less : {x u : ℕ} → (x ≡ 0 → ⊥) → x ≤ u → x - 1 < u
+one-less {x} {u} f l = go x f l
+  where
+    go : (x : ℕ) → (x ≡ 0 → ⊥) → x ≤ u → x - 1 < u
+    go zero f l = absurd (f refl)
+    go (suc x) f l = omega arith
+
 pub past : {X : Type 0} (xs : List X) (d : X) (j : ℕ) → length xs ≤ j → getD xs j d ≡ d
 past [] d j h = refl
 past (x ∷ xs) d zero h = absurd (omega arith)
@@ -56,6 +81,15 @@ past (x ∷ xs) d (suc j) h = past xs d j (omega arith)
 -- Signed numbers, by their bits.
 pub same-bits : {y z : ℤ} → SFits w64 y → SFits w64 z → ofZ w64 y ≡ ofZ w64 z → y ≡ z
 same-bits {y} {z} f g e = sym (toZ-ofZ w64 y f) ∙ (ap (toZ w64) e ∙ toZ-ofZ w64 z g)
+
+pub lower-yes : {y z : ℤ} → SFits w64 y → SFits w64 z → ltZ (toZ w64 (ofZ w64 y)) (toZ w64 (ofZ w64 z)) ≡ true → y <ℤ z
+lower-yes {y} {z} f g e = ltZ-yes (subst T (sym (sym (λ i. ltZ (toZ-ofZ w64 y f i) (toZ-ofZ w64 z g i)) ∙ e)) tt)
+
+pub lower-no : {y z : ℤ} → SFits w64 y → SFits w64 z → ltZ (toZ w64 (ofZ w64 y)) (toZ w64 (ofZ w64 z)) ≡ false → y <ℤ z → ⊥
+lower-no {y} {z} f g e h = subst T (sym (λ i. ltZ (toZ-ofZ w64 y f i) (toZ-ofZ w64 z g i)) ∙ e) (h .lt)
+
+pub lower-at-equal : {y z y' z' : ℤ} → y ≡ y' → z ≡ z' → y <ℤ z → y' <ℤ z'
+lower-at-equal {y} {z} {y'} {z'} p q h = subst (λ (x : ℤ). y' <ℤ x) q (subst (λ (x : ℤ). x <ℤ z) p h)
 
 pub zero-fits : SFits w64 (pos 0)
 zero-fits = record { sfits = omega arith }
@@ -172,28 +206,6 @@ start-up nodes n (suc u) h = go (eq-or-lt-of-le h) (λ l. start-up nodes n u l)
 pub edges-before : {st : Store} {n u : ℕ} → n < u → Rules st n → firstAt (st .nodes) n + countAt (st .nodes) n ≤ start (st .nodes) u
 edges-before {st} {n = n} {u = u} l r = let a : n + 1 ≤ u = omega arith in omega (arith, r .packed, start-next (st .nodes) n, start-up (st .nodes) (n + 1) u a)
 
--- Walks.
-module _ {index : List ℕ} {r : ℕ} where
-  pub down-le : {x y : ℕ} → Down index r x y → y ≤ x
-  down-le here = omega arith
-  down-le (there h d) = omega (arith, down-le d)
-
-  pub down-step : {x y : ℕ} → y < x → Down index r x y → (getD index (r + (x - 1)) 0 ≤ x - 1) × Down index r (getD index (r + (x - 1)) 0) y
-  down-step l here = absurd (omega arith)
-  down-step {y = y} l (there {k} h d) =
-      let e : k ≡ suc k - 1 = omega arith in
-      subst (λ (i : ℕ). (getD index (r + i) 0 ≤ i) × Down index r (getD index (r + i) 0) y) e (h, d)
-
-  pub down-back : (x : ℕ) {y : ℕ} → 0 < x → getD index (r + (x - 1)) 0 ≤ x - 1 → Down index r (getD index (r + (x - 1)) 0) y → Down index r x y
-  down-back zero l h d = absurd (omega arith)
-  down-back (suc k) {y} l h d =
-      let e : suc k - 1 ≡ k = omega arith in
-      let q = subst (λ (i : ℕ). (getD index (r + i) 0 ≤ i) × Down index r (getD index (r + i) 0) y) e (h, d) in
-      there (q .0) (q .1)
-
-  pub down-same : {x y : ℕ} → x ≡ y → Down index r x y
-  down-same {x} e = subst (λ (y : ℕ). Down index r x y) e here
-
 -- The same fact at equal numbers.
 pub same-run-at-equal : {children : List ℕ} {cuts : List ℤ} {a b n a' b' n' : ℕ} → a ≡ a' → b ≡ b' → n ≡ n' → SameRun children cuts a b n → SameRun children cuts a' b' n'
 same-run-at-equal {children} {cuts} {a} {b} {n} {a'} {b'} {n'} p q r s =
@@ -208,20 +220,6 @@ climbs-at-equal {cuts} {e} {n} {e'} {n'} q r s = subst (λ (i : ℕ). Climbs cut
 
 pub blank-at-equal : {cuts : List ℤ} {e e' : ℕ} → e ≡ e' → Blank cuts e → Blank cuts e'
 blank-at-equal {cuts} q s = subst (λ (i : ℕ). Blank cuts i) q s
-
-module _ {index : List ℕ} {r : ℕ} where
-  -- a walk from a bucket's word, which was read at a number that is the bucket
-  pub head-at : {b b' x y : ℕ} → b ≡ b' → x ≡ getD index b 0 → Down index r x y → Down index r (getD index b' 0) y
-  head-at {y = y} p q d = subst (λ (i : ℕ). Down index r (getD index i 0) y) p (subst (λ (i : ℕ). Down index r i y) q d)
-
-  pub head-from : {b b' x y : ℕ} → b ≡ b' → x ≡ getD index b 0 → Down index r (getD index b' 0) y → Down index r x y
-  head-from {y = y} p q d = subst (λ (i : ℕ). Down index r i y) (sym q) (subst (λ (i : ℕ). Down index r (getD index i 0) y) (sym p) d)
-
-  pub down-suc : {x n : ℕ} → Down index r x (suc n) → Down index r x (n + 1)
-  down-suc {x} {n} d = subst (λ (i : ℕ). Down index r x i) (sym (add-one n)) d
-
-  pub down-one : {x n : ℕ} → Down index r x (n + 1) → Down index r x (suc n)
-  down-one {x} {n} d = subst (λ (i : ℕ). Down index r x i) (add-one n) d
 
 pub one : (n : ℕ) → (n ≡ 0 → ⊥) → n < 2 → n ≡ 1
 one zero f h = absurd (f refl)
@@ -239,20 +237,6 @@ tally-none F = refl
 pub some-one : (n : ℕ) → (n ≡ 0 → ⊥) → 1 ≡ some n
 some-one zero f = absurd (f refl)
 some-one (suc n) f = refl
-
--- a number that is 0 exactly when P holds
-pub given-yes : {P : Type 0} → P → Decides P (eqb 0 0)
-given-yes p = holds p
-
-pub given-no : {P : Type 0} → (P → ⊥) → Decides P (eqb 1 0)
-given-no n = fails n
-
-pub yes-zero : {P : Type 0} {r : ℕ} → Decides P (eqb r 0) → P → r ≡ 0
-yes-zero {P} {r} d p = go (eqb r 0) refl d
-  where
-    go : (b : Bool) → eqb r 0 ≡ b → Decides P b → r ≡ 0
-    go true e d = eqb-true r 0 e
-    go false e (fails n) = absurd (n p)
 
 -- Places.
 place-low : (z : ℤ) → ltZ z (negsuc 4294967296) ≡ true → Place z → ⊥
@@ -285,6 +269,10 @@ judged-no (unsound x) e = x
 -- words gathered by `or` are zero when each is
 pub or-zero : (a b : ℕ) → bitOr a b ≡ 0 → (a ≡ 0) × (b ≡ 0)
 or-zero a b e = (omega (arith, or-add-and a b, and-le-r a b), omega (arith, or-add-and a b, and-le-l a b))
+
+-- and so are cuts, by their bits
+pub no-bits : {z : ℤ} → SFits w64 z → ofZ w64 z ≡ 0 → z ≡ pos 0
+no-bits f e = same-bits f zero-fits e
 
 pub zero-or : (a b : ℕ) → a ≡ 0 → b ≡ 0 → bitOr a b ≡ 0
 zero-or a b p q = omega (arith, or-add-and a b)

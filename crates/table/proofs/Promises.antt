@@ -1,10 +1,11 @@
 -- What a reader of the demands looks for, as far as it speaks of lent tables that no node is added to. Assumes nothing.
 use mathlib.Core.Path.{_≡_, refl, ap}
 use mathlib.Core.List.{List, []}
-use Prim.Native.Nat.{ℕ, zero, suc, _≤_, _<_}
+use Prim.Native.Nat.{ℕ, zero, suc, _+_, _*_, _≤_, _<_}
 use native.Mathlib.Omega.{arith}
 use lib.ListN.{length, getD, replicate}
 use lib.IntN.{ℤ, pos}
+use Rattle.chains.proofs.Unique.{sorted-none}
 use Rattle.diagram.specs.Pieces.{count}
 use Rattle.diagram.specs.Sound.{Sound}
 use Rattle.diagram.specs.Room.{mostEdges, width, edgeTotal, Fits}
@@ -78,9 +79,9 @@ zero-words-are-sound a b c d = record {
     no-cut = λ i l. blank (pos 0) c i;
   };
   indexed = record {
-    heads = λ k l. record { before = omega (arith, no-word d k); own = λ m e. absurd (omega (arith, no-word d k)); none = λ m h g. absurd (omega arith) };
-    nexts = λ n l. absurd (omega arith);
-    no-next = λ i l. no-word d i;
+    chains = sorted-none (λ i l. no-word d i) (λ n l. no-word d (room (replicate a 0) + n)) (λ n l. no-word d (room (replicate a 0) * 2 + n));
+    hashes = λ n l. absurd (omega arith);
+    no-hash = λ n l. no-word d (room (replicate a 0) * 3 + n);
   };
 }
 

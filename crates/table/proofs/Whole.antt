@@ -1,97 +1,122 @@
--- A table is sound exactly when each of its records extends the ones before it and the rest holds.
+-- A table is sound exactly when each of its records keeps the rules, each node is linked, and the rest holds.
 -- Assumes nothing.
 use mathlib.Core.Path.{_≡_, refl, sym, _∙_, ap, subst}
 use mathlib.Core.Bool.{Bool}
 use mathlib.Core.Logic.{_⊎_, ⊎-elim}
 use mathlib.Core.List.{List}
-use Prim.Native.Nat.{ℕ, zero, suc, _+_, _*_, _/_, _≤_, _<_}
+use Prim.Native.Nat.{ℕ, zero, suc, _+_, _-_, _*_, _/_, _≤_, _<_}
 use native.Mathlib.Omega.{arith}
-use lib.ListN.{getD}
 use lib.IntN.{ℤ}
+use Rattle.chains.specs.Before.{Strict}
+use Rattle.chains.specs.Row.{words}
+use Rattle.chains.specs.Row as row
+use Rattle.chains.proofs.Lexical.{by-strict, by-level, key-tells, key-same}
+use Rattle.chains.proofs.Checked.{local-sorted, sorted-linked, sorted-local, sorted-differ}
+use Rattle.chains.proofs.Rows.{row-tally}
 use Rattle.table.specs.Deciding.{Decides, holds, fails}
 use Rattle.table.specs.Layout.{varAt, countAt, firstAt, room, start, cutPosition, Store}
-use Rattle.table.specs.Indexed.{hashTo, bucketAt}
+use Rattle.table.specs.Indexed.{hashTo, hashAt, bucketAt, keyAt, precedes}
 use Rattle.table.specs.Lent.{SameRun, SameRecord, SoundLent}
-use Rattle.table.specs.Checking.{Judges, sound, unsound, Down, Linked, ExtendsAt, Rest}
+use Rattle.table.specs.Checking.{Judges, sound, unsound, Recorded, LinkedAt, Rest}
 use Rattle.table.proofs.Laws as laws
-use Rattle.table.proofs.Chain as chain
-use Rattle.table.proofs.Owner as owner
-use Rattle.table.proofs.Chain.{Order, less, equal, more, lt-eq-or-gt}
+use Rattle.table.proofs.Laws.{Order, less, equal, more, lt-eq-or-gt}
 
--- The same edges have the same hash, and the same nodes the same bucket.
+-- The same edges have the same hash, and the same nodes the same key and bucket.
 hash-same : (children : List ℕ) (cuts : List ℤ) (v a b n j : ℕ) → j ≤ n → SameRun children cuts a b n → hashTo children cuts v a j ≡ hashTo children cuts v b j
 unfolding hashTo
 hash-same children cuts v a b n zero l s = refl
 hash-same children cuts v a b n (suc j) l s = laws.mix-at-equal (hash-same children cuts v a b n j (omega arith) s) (s .child j (omega arith)) (ap cutPosition (s .cut j (omega arith)))
 
 module _ (st : Store) where
-  pub same-bucket : (m n : ℕ) → SameRecord st m n → bucketAt st m ≡ bucketAt st n
-  unfolding bucketAt
-  same-bucket m n s =
-      ap (λ (h : ℕ). h * room (st .nodes) / 4294967296) ((λ i. hashTo (st .children) (st .cuts) (s .variable i) (firstAt (st .nodes) m) (s .count i)) ∙ hash-same (st .children) (st .cuts) (varAt (st .nodes) n) (firstAt (st .nodes) m) (firstAt (st .nodes) n) (countAt (st .nodes) n) (countAt (st .nodes) n) (omega arith) (s .edges))
+  same-hash : (m n : ℕ) → SameRecord st m n → hashAt st m ≡ hashAt st n
+  unfolding hashAt
+  same-hash m n s =
+      (λ i. hashTo (st .children) (st .cuts) (s .variable i) (firstAt (st .nodes) m) (s .count i)) ∙ hash-same (st .children) (st .cuts) (varAt (st .nodes) n) (firstAt (st .nodes) m) (firstAt (st .nodes) n) (countAt (st .nodes) n) (countAt (st .nodes) n) (omega arith) (s .edges)
+
+  same-key : (m n : ℕ) → SameRecord st m n → keyAt st m ≡ keyAt st n
+  unfolding keyAt
+  same-key m n s = key-same _ _ _ _ _ _ _ _ _ _ (record { hash = same-hash m n s; variable = s .variable; count = s .count; edges = λ j l. (s .edges .child j (omega (arith, s .count)), ap cutPosition (s .edges .cut j (omega (arith, s .count)))) })
+
+  key-bucket : (m n : ℕ) → keyAt st m ≡ keyAt st n → bucketAt st m ≡ bucketAt st n
+  unfolding keyAt bucketAt
+  key-bucket m n e = ap (λ (h : ℕ). h * room (st .nodes) / 4294967296) (key-tells _ _ _ _ _ _ _ _ _ _ e .hash)
+
+  pub hash-at : (n : ℕ) {h : ℕ} → h ≡ hashTo (st .children) (st .cuts) (varAt (st .nodes) n) (firstAt (st .nodes) n) (countAt (st .nodes) n) → h ≡ hashAt st n
+  unfolding hashAt
+  hash-at n e = e
+
+  pub hash-at-lt : (n : ℕ) → hashAt st n < 4294967296
+  unfolding hashAt
+  hash-at-lt n = laws.hash-lt (st .children) (st .cuts) (varAt (st .nodes) n) (firstAt (st .nodes) n) (countAt (st .nodes) n)
 
   pub bucket-lt : (n : ℕ) → 0 < room (st .nodes) → bucketAt st n < room (st .nodes)
   unfolding bucketAt
-  bucket-lt n h = laws.scaled-lt _ (room (st .nodes)) (laws.hash-lt (st .children) (st .cuts) (varAt (st .nodes) n) (firstAt (st .nodes) n) (countAt (st .nodes) n)) h
+  bucket-lt n h = laws.scaled-lt _ (room (st .nodes)) (hash-at-lt n) h
 
-  pub bucket-hash : (n : ℕ) {h : ℕ} → h ≡ hashTo (st .children) (st .cuts) (varAt (st .nodes) n) (firstAt (st .nodes) n) (countAt (st .nodes) n) → h * room (st .nodes) / 4294967296 ≡ bucketAt st n
+  pub bucket-hash : (n : ℕ) {h : ℕ} → h ≡ hashAt st n → h * room (st .nodes) / 4294967296 ≡ bucketAt st n
   unfolding bucketAt
   bucket-hash n e = ap (λ (x : ℕ). x * room (st .nodes) / 4294967296) e
 
+  strict : Strict (precedes st)
+  strict = by-strict (keyAt st)
+
   module _ (index : List ℕ) where
-    -- the nodes before n of its bucket are on the walk from its next
-    pub before-on : (n : ℕ) → ((m : ℕ) → m < n + 1 → Linked st index m) → (k : ℕ) → k < n → bucketAt st k ≡ bucketAt st n → Down index (room (st .nodes)) (getD index (room (st .nodes) + n) 0) (suc k)
-    before-on n all k l e = chain.both n k l (all n (omega arith) .reached) (subst (λ (b : ℕ). Down index (room (st .nodes)) (getD index b 0) (suc k)) e (all k (omega arith) .reached))
+    abbrev Chained : ℕ → Type 0
+    Chained u = row.Indexed (precedes st) (bucketAt st) u (room (st .nodes)) (words index)
 
-    -- a record of a sound table extends
-    pub sound-extends : (u n : ℕ) → SoundLent st index u → n < u → ExtendsAt st index n
-    sound-extends u n s l =
-        record {
-          rules = s .records .rules n l;
-          linked = record {
-            before = s .indexed .nexts n l .before;
-            reached = chain.reach (bucketAt st) index (room (st .nodes)) u u u (omega arith) (omega arith) (s .indexed .nexts) b (getD index b 0) (s .indexed .heads b (bucket-lt n (omega (arith, s .records .fits)))) n l refl;
-          };
-          single = λ m k. s .records .single m n k l;
-        }
-      where
-        b : ℕ
-        b = bucketAt st n
+    inside : (u : ℕ) → u ≤ room (st .nodes) → (n : ℕ) → n < u → bucketAt st n < room (st .nodes)
+    inside u h n l = bucket-lt n (omega arith)
 
-    module _ (n e : ℕ) (fits : n ≤ room (st .nodes)) (all : (m : ℕ) → m < n → ExtendsAt st index m) (at : e ≡ start (st .nodes) n) where
-      sums-up : Rest st index n e → SoundLent st index n
-      sums-up r =
-          record {
-            records = record {
-              fits = fits;
-              rules = λ m l. all m l .rules;
-              single = λ k m a b. all m b .single k a;
-              no-node = r .no-node;
-              no-child = λ i h. r .no-child i (omega arith);
-              no-cut = λ i h. r .no-cut i (omega arith);
-            };
-            indexed = record {
-              heads = λ b h. chain.head-last (bucketAt st) index (room (st .nodes)) n b (λ k l. all k l .linked .reached) (owner.head-points index (room (st .nodes)) n (bucketAt st) small reached (r .tallied) b h);
-              nexts = λ m l. chain.next-last (bucketAt st) index (room (st .nodes)) m (λ k h. all k (omega arith) .linked .reached) (owner.next-points index (room (st .nodes)) n (bucketAt st) small reached (r .tallied) m l (all m l .linked .before));
-              no-next = r .no-next;
-            };
-          }
-        where
-          small : (m : ℕ) → m < n → bucketAt st m < room (st .nodes)
-          small m l = bucket-lt m (omega arith)
+    -- no two records of sorted chains are the same
+    apart : (u : ℕ) → u ≤ room (st .nodes) → Chained u → (m n : ℕ) → m < n → n < u → SameRecord st m n → ⊥
+    apart u h t m n k l s = let e = sorted-differ strict (inside u h) t (keyAt st) key-bucket (by-level (keyAt st)) m n (omega arith) l (same-key m n s) in omega arith
 
-          reached : (m : ℕ) → m < n → Down index (room (st .nodes)) (getD index (bucketAt st m) 0) (suc m)
-          reached m l = all m l .linked .reached
+    -- a record of a sound table is recorded
+    sound-recorded : (u n : ℕ) → SoundLent st index u → n < u → Recorded st index n
+    sound-recorded u n s l = record { rules = s .records .rules n l; hashed = s .indexed .hashes n l }
+
+    module _ (n e : ℕ) (fits : n ≤ room (st .nodes)) (all : (m : ℕ) → m < n → Recorded st index m) (at : e ≡ start (st .nodes) n) where
+      chained : ((m : ℕ) → m < n → LinkedAt st index n m) → Rest st index n e → Chained n
+      chained k r = local-sorted strict (inside n fits) (record {
+        linked = k;
+        full = sym (row-tally (words index) (room (st .nodes)) n) ∙ r .full;
+        no-next = λ m a b. r .no-next (room (st .nodes) + m) (omega arith) (omega arith);
+        no-prev = λ m a b. r .no-prev (room (st .nodes) * 2 + m) (omega arith) (omega arith);
+      })
+
+      sums-up : ((m : ℕ) → m < n → LinkedAt st index n m) → Rest st index n e → SoundLent st index n
+      sums-up k r = record {
+        records = record {
+          fits = fits;
+          rules = λ m l. all m l .rules;
+          single = apart n fits (chained k r);
+          no-node = r .no-node;
+          no-child = λ i h. r .no-child i (omega arith);
+          no-cut = λ i h. r .no-cut i (omega arith);
+        };
+        indexed = record {
+          chains = chained k r;
+          hashes = λ m l. all m l .hashed;
+          no-hash = λ m l. r .no-hash (room (st .nodes) * 3 + m) (omega arith);
+        };
+      }
+
+      links-hold : SoundLent st index n → (m : ℕ) → m < n → LinkedAt st index n m
+      links-hold s = sorted-linked strict (inside n fits) (s .indexed .chains)
 
       falls-apart : SoundLent st index n → Rest st index n e
-      falls-apart s =
-          record {
-            no-node = s .records .no-node;
-            no-child = λ i h. s .records .no-child i (omega arith);
-            no-cut = λ i h. s .records .no-cut i (omega arith);
-            no-next = s .indexed .no-next;
-            tallied = owner.tallied index (room (st .nodes)) n (bucketAt st) (λ m l. bucket-lt m (omega arith)) (s .indexed .heads) (s .indexed .nexts);
-          }
+      falls-apart s = record {
+        no-node = s .records .no-node;
+        no-child = λ i h. s .records .no-child i (omega arith);
+        no-cut = λ i h. s .records .no-cut i (omega arith);
+        no-next = λ i h l. at-row (room (st .nodes)) i (omega arith) (s .indexed .chains .no-next (i - room (st .nodes)) (omega arith) (omega arith));
+        no-prev = λ i h l. at-row (room (st .nodes) * 2) i (omega arith) (s .indexed .chains .no-prev (i - room (st .nodes) * 2) (omega arith) (omega arith));
+        no-hash = λ i h. at-row (room (st .nodes) * 3) i (omega arith) (s .indexed .no-hash (i - room (st .nodes) * 3) (omega arith));
+        full = row-tally (words index) (room (st .nodes)) n ∙ sorted-local strict (inside n fits) (s .indexed .chains) .full;
+      }
+        where
+          at-row : (k i : ℕ) → k ≤ i → words index (k + (i - k)) ≡ 0 → words index i ≡ 0
+          at-row k i h e = laws.getD-at-equal index i (k + (i - k)) (omega arith) ∙ e
 
       -- where the records end the table ends, whatever number of nodes it is said to have
       module _ (ends : (n ≡ room (st .nodes)) ⊎ (countAt (st .nodes) n ≡ 0)) where
@@ -103,10 +128,14 @@ module _ (st : Store) where
             go (less q) = absurd (⊎-elim (λ x. omega (arith, s .records .fits)) (λ x. omega (arith, s .records .rules n q .many)) ends)
             go (more q) = absurd (omega (arith, all u q .rules .many, s .records .no-node (u * 4 + 1) (omega arith)))
 
-        pub judged : {b : Bool} → Decides (Rest st index n e) b → Judges st index n e b
-        judged (holds r) = sound (sums-up r) at
-        judged (fails x) = unsound (λ u s. x (falls-apart (subst (SoundLent st index) (sym (same-end u s)) s)))
+        -- a node that is not linked
+        pub unlinked : (((m : ℕ) → m < n → LinkedAt st index n m) → ⊥) → (u : ℕ) → SoundLent st index u → ⊥
+        unlinked bad u s = bad (links-hold (subst (SoundLent st index) (sym (same-end u s)) s))
 
-      -- a used record that does not extend
-      pub refused : (countAt (st .nodes) n ≡ 0 → ⊥) → (ExtendsAt st index n → ⊥) → (u : ℕ) → SoundLent st index u → ⊥
-      refused some bad u s = ⊎-elim (λ l. bad (sound-extends u n s l)) (λ g. some (s .records .no-node (n * 4 + 1) (omega arith))) (laws.lt-or-le n u)
+        pub judged : {b : Bool} → ((m : ℕ) → m < n → LinkedAt st index n m) → Decides (Rest st index n e) b → Judges st index n e b
+        judged k (holds r) = sound (sums-up k r) at
+        judged k (fails x) = unsound (λ u s. x (falls-apart (subst (SoundLent st index) (sym (same-end u s)) s)))
+
+      -- a used record that breaks a rule, or has another hash
+      pub refused : (countAt (st .nodes) n ≡ 0 → ⊥) → (Recorded st index n → ⊥) → (u : ℕ) → SoundLent st index u → ⊥
+      refused some bad u s = ⊎-elim (λ l. bad (sound-recorded u n s l)) (λ g. some (s .records .no-node (n * 4 + 1) (omega arith))) (laws.lt-or-le n u)

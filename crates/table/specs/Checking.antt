@@ -5,12 +5,15 @@ use mathlib.Core.List.{List}
 use Prim.Native.Nat.{ℕ, zero, suc, _+_, _-_, _*_, _≤_, _<_, _^_}
 use lib.ListN.{getD}
 use lib.IntN.{ℤ, pos}
+use Rattle.chains.specs.Lexical.{run}
+use Rattle.chains.specs.Local.{tally, Linked}
+use Rattle.chains.specs.Row.{words, nextOf, prevOf}
 use Rattle.diagram.specs.Pieces.{select}
 use Rattle.diagram.specs.Table.{firstBoolean, isRange, Assignment}
 use Rattle.table.specs.Deciding.{Decides}
 use Rattle.table.specs.Layout.{varAt, countAt, firstAt, kidAt, cutAt, room, start, cutPosition, Store}
-use Rattle.table.specs.Indexed.{hashTo, bucketAt}
-use Rattle.table.specs.Lent.{KidsStand, Rules, SameRecord, SoundRecords, SoundLent}
+use Rattle.table.specs.Indexed.{hashTo, hashAt, bucketAt, precedes}
+use Rattle.table.specs.Lent.{KidsStand, Rules, SoundRecords, SoundLent}
 use Rattle.ids.specs.Index.{KnownTo}
 use Rattle.table.specs.Held.{edgesFrom, edgesAt}
 use Rattle.table.specs.Told.{bit}
@@ -37,42 +40,28 @@ pub record Keeps (st : Store) (n : ℕ) (ok : Bool) (hash : ℕ) : Type 0 where
   pub hashed : ok ≡ true → hash ≡ hashTo (st .children) (st .cuts) (varAt (st .nodes) n) (firstAt (st .nodes) n) (countAt (st .nodes) n)
   pub small : hash < 2 ^ 32
 
--- How many of the first n words are not 0.
-abbrev pub some : ℕ → ℕ
-some zero = 0
-some (suc n) = 1
+-- The children and cuts of n edges of a node whose first edge is a, from its edge j on, as nodes are ordered by them.
+abbrev pub runAt : List ℕ → List ℤ → ℕ → ℕ → ℕ → List ℕ
+runAt children cuts a j n = run (λ i. kidAt children (a + i)) (λ i. cutPosition (cutAt cuts (a + i))) j n
 
-unfoldable pub tally : (ℕ → ℕ) → ℕ → ℕ
-tally F zero = 0
-tally F (suc n) = tally F n + some (F n)
-
--- The first n words of the index are at most u, and u of them are not 0.
-pub record Tallied (index : List ℕ) (n u : ℕ) : Type 0 where
-  pub small : (i : ℕ) → i < n → getD index i 0 ≤ u
-  pub full : tally (λ (i : ℕ). getD index i 0) n ≡ u
-
--- A falling walk along the nexts leads from x to y.
-pub data Down (index : List ℕ) (r : ℕ) : ℕ → ℕ → Type 0 where
-  here : {x : ℕ} → Down index r x x
-  there : {k y : ℕ} → getD index (r + k) 0 ≤ k → Down index r (getD index (r + k) 0) y → Down index r (suc k) y
-
-pub record Linked (st : Store) (index : List ℕ) (n : ℕ) : Type 0 where
-  pub before : getD index (room (st .nodes) + n) 0 ≤ n
-  pub reached : Down index (room (st .nodes)) (getD index (bucketAt st n) 0) (suc n)
-
--- Record n extends the table of the n records before it.
-pub record ExtendsAt (st : Store) (index : List ℕ) (n : ℕ) : Type 0 where
+-- Record n keeps the rules, and the index holds its hash.
+pub record Recorded (st : Store) (index : List ℕ) (n : ℕ) : Type 0 where
   pub rules : Rules st n
-  pub linked : Linked st index n
-  pub single : (m : ℕ) → m < n → SameRecord st m n → ⊥
+  pub hashed : getD index (room (st .nodes) * 3 + n) 0 ≡ hashAt st n
 
--- Nothing lies behind u nodes and e edges, and the index has u words that are not 0.
+-- Node n, of u, is the first of its bucket, or it and a node of its bucket that comes before it name one another.
+abbrev pub LinkedAt : Store → List ℕ → ℕ → ℕ → Type 0
+LinkedAt st index u n = Linked (precedes st) (bucketAt st) u (words index) (nextOf (room (st .nodes)) (words index)) (prevOf (room (st .nodes)) (words index)) n
+
+-- Nothing lies behind u nodes and e edges, and u of the words for firsts and nexts are not 0.
 pub record Rest (st : Store) (index : List ℕ) (u e : ℕ) : Type 0 where
   pub no-node : (i : ℕ) → u * 4 ≤ i → getD (st .nodes) i 0 ≡ 0
   pub no-child : (i : ℕ) → e ≤ i → kidAt (st .children) i ≡ 0
   pub no-cut : (i : ℕ) → e ≤ i → cutAt (st .cuts) i ≡ pos 0
-  pub no-next : (i : ℕ) → room (st .nodes) + u ≤ i → getD index i 0 ≡ 0
-  pub tallied : Tallied index (room (st .nodes) + u) u
+  pub no-next : (i : ℕ) → room (st .nodes) + u ≤ i → i < room (st .nodes) * 2 → getD index i 0 ≡ 0
+  pub no-prev : (i : ℕ) → room (st .nodes) * 2 + u ≤ i → i < room (st .nodes) * 3 → getD index i 0 ≡ 0
+  pub no-hash : (i : ℕ) → room (st .nodes) * 3 + u ≤ i → getD index i 0 ≡ 0
+  pub full : tally (words index) (room (st .nodes) + u) ≡ u
 
 -- The check's answer: sound with that many nodes and edges, or not sound whatever the number of nodes.
 pub data Judges (st : Store) (index : List ℕ) (u e : ℕ) : Bool → Type 0 where

@@ -64,7 +64,7 @@ pub record Lengths (nodes children cuts index : ℕ) : Type 0 where
   pub some-edges : 2 ≤ children
   pub most-edges : children ≤ mostEdgeRoom
   pub cut-each : cuts ≡ children
-  pub indexed : index ≡ nodes / 4 * 2
+  pub indexed : index ≡ nodes / 4 * 4
 
 -- Of a memo, which is words of 64 bits: whole sets of eight words, at least one, and at most one for each node record.
 pub record MemoLengths (memo rooms : ℕ) : Type 0 where

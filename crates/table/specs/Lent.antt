@@ -11,7 +11,7 @@ use Rattle.ranges.specs.Line.{Cut}
 use Rattle.diagram.specs.Table.{variables, firstBoolean}
 use Rattle.diagram.specs.Room.{mostEdges}
 use Rattle.table.specs.Layout.{varAt, countAt, firstAt, spareAt, kidAt, cutAt, room, start, Store}
-use Rattle.table.specs.Indexed.{bucketAt, Indexed}
+use Rattle.table.specs.Indexed.{Indexed}
 
 -- "Each child is a terminal, or an earlier node whose variable is later in the order."
 abbrev pub Stands : List ℕ → ℕ → ℕ → ℕ → Type 0
@@ -77,4 +77,4 @@ pub record SoundRecords (st : Store) (u : ℕ) : Type 0 where
 -- A sound table that uses u records: "the index is what the node records, taken in order, determine".
 pub record SoundLent (st : Store) (index : List ℕ) (u : ℕ) : Type 0 where
   pub records : SoundRecords st u
-  pub indexed : Indexed (room (st .nodes)) (bucketAt st) index u
+  pub indexed : Indexed st index u

@@ -8,7 +8,7 @@ pub const MOST_EDGE_ROOM: usize = 16384;
 // The words of a node record; of the index and of the memo for each node record of the room.
 pub const RECORD_WORDS: usize = 4;
 
-pub const INDEX_WORDS: usize = 2;
+pub const INDEX_WORDS: usize = 4;
 
 pub const MEMO_WORDS: usize = 8;
 

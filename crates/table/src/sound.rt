@@ -1,20 +1,23 @@
-// The check of a whole table: each record extends the table of those before it, and nothing lies behind the last.
+// The check of a whole table: each record keeps the rules, each node is linked into its chain, and nothing lies behind the last. One step a
+// record, one a link, one a word: so its time goes with the lengths, whatever was lent.
 ghost use mathlib.Core.Path.{_≡_};
 ghost use Prim.Native.Nat.{ℕ, _*_, _<_, _≤_};
 ghost use lib.ListN.{length};
+ghost use Rattle.chains.specs.Local.{tally};
+ghost use Rattle.chains.specs.Row.{words};
 ghost use Rattle.table.specs.Deciding.{Decides};
 ghost use Rattle.table.specs.Layout.{mostNodes, Lengths, start, room, store};
-ghost use Rattle.table.specs.Lent.{Rules};
-ghost use Rattle.table.specs.Checking.{Judges, Rest, ExtendsAt, Tallied};
-use super::index::alone;
-use super::index::leads;
+ghost use Rattle.table.specs.Checking.{Judges, Rest, Recorded, LinkedAt};
+use super::index::comes_before;
 use super::index::scaled;
 use super::limits::RECORD_WORDS;
 use super::rules::rules_hold;
 use super::words::blanks_from;
 use super::words::count_of;
+use super::words::names;
 use super::words::one_for;
 use super::words::word;
+use super::words::zeros_between;
 use super::words::zeros_from;
 
 // The check's answer, with the used counts of a sound table.
@@ -24,8 +27,8 @@ pub struct Judged {
     pub edges: usize,
 }
 
-// Whether record n, after records with e edges, extends the table of the n records before it.
-pub fn extends(
+// Whether record n, after records with e edges, keeps the rules and the index holds its hash.
+pub fn is_recorded(
     nodes: &[u32],
     children: &[u32],
     cuts: &[i64],
@@ -33,55 +36,86 @@ pub fn extends(
     n: usize,
     e: usize,
 ) -> bool
-    requires { ⌜ (Lengths (length (now nodes)) (length (now children)) (length (now cuts)) (length (now index))) × (n < room (now nodes)) × (e ≡ start (now nodes) n) × (e ≤ length (now children)) × ((m : ℕ) → m < n → ExtendsAt (store (now nodes) (now children) (now cuts)) (now index) m) ⌝ }
-    ensures { λ r. ⌜ Decides (ExtendsAt (store (now (nodes .entry)) (now (children .entry)) (now (cuts .entry))) (now (index .entry)) n) r ⌝ }
+    requires { ⌜ (Lengths (length (now nodes)) (length (now children)) (length (now cuts)) (length (now index))) × (n < room (now nodes)) × (e ≡ start (now nodes) n) × (e ≤ length (now children)) ⌝ }
+    ensures { λ r. ⌜ Decides (Recorded (store (now (nodes .entry)) (now (children .entry)) (now (cuts .entry))) (now (index .entry)) n) r ⌝ }
 {
     let seen = rules_hold(nodes, children, cuts, n, e);
     if !seen.ok {
         return false;
     }
     let rooms = nodes.len() / RECORD_WORDS;
-    let b = scaled(seen.hash, rooms);
-    let next = word(index, rooms + n);
-    // A link names an earlier node, or none: so chains fall, and every walk along one ends.
-    if n < next {
+    if word(index, rooms * 3 + n) != seen.hash {
         return false;
     }
-    let head = word(index, b);
-    if rooms < head {
-        return false;
-    }
-    // The bucket's word is for the last node in it, which may come after n: the walk goes down from there, and has to meet n.
-    if !leads(index, rooms, head, n + 1) {
-        return false;
-    }
-    // Last, since it looks for twins along the links alone: these are now known to lead through every earlier node of the bucket.
-    alone(nodes, children, cuts, index, n)
+    true
 }
 
-// Whether the first n words are at most u, and u of them are not 0.
-pub fn tallies(index: &[u32], n: usize, u: usize) -> bool
+// Whether node n, of u, is the first of its bucket, or it and a node of its bucket that comes before it name one another.
+pub fn is_linked(
+    nodes: &[u32],
+    children: &[u32],
+    cuts: &[i64],
+    index: &[u32],
+    u: usize,
+    n: usize,
+) -> bool
+    requires { ⌜ (Lengths (length (now nodes)) (length (now children)) (length (now cuts)) (length (now index))) × (u ≤ room (now nodes)) × (n < u) × ((m : ℕ) → m < u → Recorded (store (now nodes) (now children) (now cuts)) (now index) m) ⌝ }
+    ensures { λ r. ⌜ Decides (LinkedAt (store (now (nodes .entry)) (now (children .entry)) (now (cuts .entry))) (now (index .entry)) u n) r ⌝ }
+{
+    let rooms = nodes.len() / RECORD_WORDS;
+    let hash = word(index, rooms * 3 + n);
+    let bucket = scaled(hash, rooms);
+    let before = word(index, rooms * 2 + n);
+    if before == 0 {
+        return names(index, bucket, n);
+    }
+    // It may come after n in number: all records were checked before, so that any of them may be compared.
+    if u < before {
+        return false;
+    }
+    let m = before - 1;
+    if !names(index, rooms + m, n) {
+        return false;
+    }
+    let other = word(index, rooms * 3 + m);
+    let home = scaled(other, rooms);
+    if home != bucket {
+        return false;
+    }
+    // In order along each link: so no two nodes of a bucket are the same, and no walk along its chain is needed to see that.
+    comes_before(nodes, children, cuts, m, other, n, hash)
+}
+
+// Whether each of u nodes is linked.
+pub fn are_linked(nodes: &[u32], children: &[u32], cuts: &[i64], index: &[u32], u: usize) -> bool
+    requires { ⌜ (Lengths (length (now nodes)) (length (now children)) (length (now cuts)) (length (now index))) × (u ≤ room (now nodes)) × ((m : ℕ) → m < u → Recorded (store (now nodes) (now children) (now cuts)) (now index) m) ⌝ }
+    ensures { λ r. ⌜ Decides ((n : ℕ) → n < u → LinkedAt (store (now (nodes .entry)) (now (children .entry)) (now (cuts .entry))) (now (index .entry)) u n) r ⌝ }
+{
+    let mut n = 0;
+    while n < u {
+        if !is_linked(nodes, children, cuts, index, u, n) {
+            return false;
+        }
+        n += 1;
+    }
+    true
+}
+
+// How many of the first n words are not 0: counted to the end, so that the compiler reads many at once.
+pub fn full_words(index: &[u32], n: usize) -> usize
     requires { ⌜ (n ≤ length (now index)) × (n ≤ mostNodes * 2) ⌝ }
-    ensures { λ r. ⌜ Decides (Tallied (now (index .entry)) n u) r ⌝ }
+    ensures { λ r. ⌜ r ≡ tally (words (now (index .entry))) n ⌝ }
 {
     let mut full = 0;
     let mut i = 0;
     while i < n {
-        let x = word(index, i);
-        if u < x {
-            return false;
-        }
-        // One word names each node: its bucket's, or the link of the next node in its bucket. A word too many shows in the count.
-        full += one_for(x);
+        full += one_for(word(index, i));
         i += 1;
     }
-    if full == u {
-        return true;
-    }
-    false
+    full
 }
 
-// Whether nothing lies behind n nodes and e edges, and the buckets' words are right.
+// Whether nothing lies behind n nodes and e edges, and n words lead to nodes.
 pub fn rest_holds(
     nodes: &[u32],
     children: &[u32],
@@ -90,7 +124,7 @@ pub fn rest_holds(
     n: usize,
     e: usize,
 ) -> bool
-    requires { ⌜ (Lengths (length (now nodes)) (length (now children)) (length (now cuts)) (length (now index))) × (n ≤ room (now nodes)) × (e ≤ length (now children)) × ((m : ℕ) → m < n → Rules (store (now nodes) (now children) (now cuts)) m) ⌝ }
+    requires { ⌜ (Lengths (length (now nodes)) (length (now children)) (length (now cuts)) (length (now index))) × (n ≤ room (now nodes)) × (e ≤ length (now children)) ⌝ }
     ensures { λ r. ⌜ Decides (Rest (store (now (nodes .entry)) (now (children .entry)) (now (cuts .entry))) (now (index .entry)) n e) r ⌝ }
 {
     if !zeros_from(nodes, n * RECORD_WORDS) {
@@ -103,10 +137,20 @@ pub fn rest_holds(
         return false;
     }
     let rooms = nodes.len() / RECORD_WORDS;
-    if !zeros_from(index, rooms + n) {
+    if !zeros_between(index, rooms + n, rooms * 2) {
         return false;
     }
-    tallies(index, rooms + n, n)
+    if !zeros_between(index, rooms * 2 + n, rooms * 3) {
+        return false;
+    }
+    if !zeros_from(index, rooms * 3 + n) {
+        return false;
+    }
+    // One word leads to each node, its bucket's or that of the node before it: a word too many shows in the count.
+    if full_words(index, rooms + n) != n {
+        return false;
+    }
+    true
 }
 
 // Whether the table is sound, with its used counts.
@@ -123,7 +167,7 @@ pub fn judge(nodes: &[u32], children: &[u32], cuts: &[i64], index: &[u32]) -> Ju
         if count == 0 {
             break;
         }
-        if !extends(nodes, children, cuts, index, n, e) {
+        if !is_recorded(nodes, children, cuts, index, n, e) {
             return Judged {
                 sound: false,
                 nodes: n,
@@ -132,6 +176,14 @@ pub fn judge(nodes: &[u32], children: &[u32], cuts: &[i64], index: &[u32]) -> Ju
         }
         e += count;
         n += 1;
+    }
+    // After all records, since a link may lead to a later one.
+    if !are_linked(nodes, children, cuts, index, n) {
+        return Judged {
+            sound: false,
+            nodes: n,
+            edges: e,
+        };
     }
     let ok = rest_holds(nodes, children, cuts, index, n, e);
     Judged {

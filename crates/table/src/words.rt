@@ -1,12 +1,12 @@
 // The words of a lent table. These few functions are the only ones that read a node or an edge (request K11 will split the table in two).
 ghost use mathlib.Core.Path.{_≡_};
-ghost use Prim.Native.Nat.{ℕ, _+_, _*_, _<_, _≤_};
+ghost use Prim.Native.Nat.{ℕ, suc, _+_, _*_, _<_, _≤_};
 ghost use lib.ListN.{length, getD};
 ghost use lib.IntN.{pos};
-ghost use lib.Dec.{eqb};
+ghost use lib.Signed.{_<ℤ_};
 ghost use Rattle.table.specs.Deciding.{Decides};
-ghost use Rattle.table.specs.Layout.{varAt, countAt, firstAt, spareAt, kidAt, cutPosition, cutAt, Lengths};
-ghost use Rattle.table.specs.Checking.{some};
+ghost use Rattle.table.specs.Layout.{mostNodes, varAt, countAt, firstAt, spareAt, kidAt, cutPosition, cutAt, Lengths};
+ghost use Rattle.chains.specs.Local.{some};
 use super::limits::INDEX_WORDS;
 use super::limits::LOWEST_CUT;
 use super::limits::MOST_EDGE_ROOM;
@@ -66,6 +66,17 @@ pub fn word(words: &[u32], i: usize) -> usize
     wide(words[i])
 }
 
+// Whether word i of the index names node n: it is one more than its number.
+pub fn names(words: &[u32], i: usize, n: usize) -> bool
+    requires { ⌜ (i < length (now words)) × (n < mostNodes) ⌝ }
+    ensures { λ r. ⌜ Decides (getD (now (words .entry)) i 0 ≡ suc n) r ⌝ }
+{
+    if word(words, i) == n + 1 {
+        return true;
+    }
+    false
+}
+
 // A cut as a number from 1 to 2^33; 0 for a number that is no cut.
 pub fn cut_position(z: i64) -> usize
     ensures { λ r. ⌜ (r ≡ cutPosition z) × (r < 8589934593) ⌝ }
@@ -92,11 +103,11 @@ pub fn blank(z: i64) -> bool
     false
 }
 
-// Whether two cuts are equal.
-pub fn equal(y: i64, z: i64) -> bool
-    ensures { λ r. ⌜ Decides (y ≡ z) r ⌝ }
+// Whether y is the lower cut.
+pub fn lower(y: i64, z: i64) -> bool
+    ensures { λ r. ⌜ Decides (y <ℤ z) r ⌝ }
 {
-    if y == z {
+    if y < z {
         return true;
     }
     false
@@ -120,14 +131,14 @@ pub fn blank_at(cuts: &[i64], i: usize) -> bool
     blank(z)
 }
 
-// Whether cuts i and j are equal.
-pub fn equal_at(cuts: &[i64], i: usize, j: usize) -> bool
+// Whether cut i is lower than cut j.
+pub fn lower_at(cuts: &[i64], i: usize, j: usize) -> bool
     requires { ⌜ (i < length (now cuts)) × (j < length (now cuts)) ⌝ }
-    ensures { λ r. ⌜ Decides (cutAt (now (cuts .entry)) i ≡ cutAt (now (cuts .entry)) j) r ⌝ }
+    ensures { λ r. ⌜ Decides (cutAt (now (cuts .entry)) i <ℤ cutAt (now (cuts .entry)) j) r ⌝ }
 {
     let y = cuts[i];
     let z = cuts[j];
-    equal(y, z)
+    lower(y, z)
 }
 
 // 1 for a number that is not 0.
@@ -140,26 +151,15 @@ pub fn one_for(x: usize) -> usize
     1
 }
 
-// 1 where cut i is not empty.
-pub fn one_at(cuts: &[i64], i: usize) -> usize
-    requires { ⌜ i < length (now cuts) ⌝ }
-    ensures { λ r. ⌜ (r ≤ 1) × Decides (cutAt (now (cuts .entry)) i ≡ pos 0) (eqb r 0) ⌝ }
-{
-    if blank_at(cuts, i) {
-        return 0;
-    }
-    1
-}
-
-// Whether the words from `from` on are zero: gathered, and not left early, so that the compiler reads many at once.
-pub fn zeros_from(words: &[u32], from: usize) -> bool
-    requires { ⌜ from ≤ length (now words) ⌝ }
-    ensures { λ r. ⌜ Decides ((i : ℕ) → from ≤ i → getD (now (words .entry)) i 0 ≡ 0) r ⌝ }
+// Whether the words from `from` to `to` are zero: gathered, and not left early, so that the compiler reads many at once.
+pub fn zeros_between(words: &[u32], from: usize, to: usize) -> bool
+    requires { ⌜ (from ≤ to) × (to ≤ length (now words)) ⌝ }
+    ensures { λ r. ⌜ Decides ((i : ℕ) → from ≤ i → i < to → getD (now (words .entry)) i 0 ≡ 0) r ⌝ }
 {
     let mut all: u32 = 0;
     let mut i = from;
     // To stop early would only make a refusal quicker: a sound table has to be read to its end anyway.
-    while i < words.len() {
+    while i < to {
         all |= words[i];
         i += 1;
     }
@@ -169,18 +169,27 @@ pub fn zeros_from(words: &[u32], from: usize) -> bool
     false
 }
 
-// Whether the cuts from `from` on are zero: counted, for the same reason.
+// Whether the words from `from` on are zero.
+pub fn zeros_from(words: &[u32], from: usize) -> bool
+    requires { ⌜ from ≤ length (now words) ⌝ }
+    ensures { λ r. ⌜ Decides ((i : ℕ) → from ≤ i → getD (now (words .entry)) i 0 ≡ 0) r ⌝ }
+{
+    let end = words.len();
+    zeros_between(words, from, end)
+}
+
+// Whether the cuts from `from` on are zero, gathered in the same way.
 pub fn blanks_from(cuts: &[i64], from: usize) -> bool
     requires { ⌜ from ≤ length (now cuts) ⌝ }
     ensures { λ r. ⌜ Decides ((i : ℕ) → from ≤ i → getD (now (cuts .entry)) i (pos 0) ≡ pos 0) r ⌝ }
 {
-    let mut full = 0;
+    let mut all: i64 = 0;
     let mut i = from;
     while i < cuts.len() {
-        full += one_at(cuts, i);
+        all |= cuts[i];
         i += 1;
     }
-    if full == 0 {
+    if all == 0 {
         return true;
     }
     false

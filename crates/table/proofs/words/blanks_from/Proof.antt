@@ -1,54 +1,49 @@
 -- `words::blanks_from` meets its contract. Assumes nothing.
 use Prim.Native.Nat.{ℕ, _<_, _≤_, _-_}
-use mathlib.Core.Path.{_≡_, refl}
+use mathlib.Core.Path.{_≡_, refl, ap}
 use mathlib.Core.Logic.{⊎-elim}
 use native.Mathlib.Omega.{arith}
 use borrow.Author.Needs.{needs}
 use lib.ListN.{length, getD}
 use lib.IntN.{pos}
+use mir.Syntax.{w64}
+use mir.Val.{ofZ}
 use Rattle.table.specs.Deciding.{holds, fails}
 use Rattle.table.proofs.Laws as laws
 use denote.Ref.{now}
-use borrow.Author.Tests.{eq-eqb}
 use Rattle.table.proofs.words.blanks_from.Statement.{statement}
 use Rattle.table.proofs.words.blanks_from.Tie as tie
 
 abbrev Inv-loop : tie.InvT-loop
-Inv-loop cuts from full₀ i₀ full i = (from ≤ i) × (i ≤ length cuts) × (full ≤ i) × (full ≡ 0 → (k : ℕ) → from ≤ k → k < i → getD cuts k (pos 0) ≡ pos 0) × (((k : ℕ) → from ≤ k → k < i → getD cuts k (pos 0) ≡ pos 0) → full ≡ 0)
+Inv-loop cuts from all₀ i₀ all i = (from ≤ i) × (i ≤ length cuts) × (all ≡ 0 → (k : ℕ) → from ≤ k → k < i → getD cuts k (pos 0) ≡ pos 0) × (((k : ℕ) → from ≤ k → k < i → getD cuts k (pos 0) ≡ pos 0) → all ≡ 0)
 
 abbrev μ-loop : tie.MeasureT-loop
-μ-loop cuts from full₀ i₀ full i = length cuts - i
+μ-loop cuts from all₀ i₀ all i = length cuts - i
 
 loop-holds : tie.Need-loop-holds Inv-loop μ-loop
-loop-holds c = (omega arith, omega arith, omega arith, λ z k a b. absurd (omega arith), λ h. refl)
-
-add-full : tie.Need-add-full Inv-loop μ-loop
-add-full c = omega (arith, (c .one-at .ensures .0))
+loop-holds c = (omega arith, omega arith, λ z k a b. absurd (omega arith), λ h. refl)
 
 loop-again : tie.Need-loop-again Inv-loop μ-loop
-loop-again c = let o = (c .one-at .ensures) in (
+loop-again c = (
   omega arith,
   omega arith,
-  omega (arith, o .0),
-  λ z k a b. ⊎-elim (λ q. rw q (laws.decided-true (o .1) (eq-eqb (c .one-at .result) 0 (omega arith)))) (λ l. (c .before .before .loop .inv .3) (omega arith) k a l) (laws.eq-or-lt k (c .before .before .loop .i) b),
-  λ h. let x = (c .before .before .loop .inv .4) (λ k a b. h k a (omega arith)) in let y : (c .one-at .result) ≡ 0 = laws.yes-zero (o .1) (h (c .before .before .loop .i) (c .before .before .loop .inv .0) (omega arith)) in omega arith,
+  λ z. let o = laws.or-zero _ _ z in λ k a b. ⊎-elim (λ q. rw q (laws.no-bits (record { sfits = (c .all .given) }) (o .1))) (λ l. (c .before .before .loop .inv .2) (o .0) k a l) (laws.eq-or-lt k (c .before .before .loop .i) b),
+  λ h. laws.zero-or _ _ ((c .before .before .loop .inv .3) (λ k a b. h k a (omega arith))) (ap (ofZ w64) (h (c .before .before .loop .i) (c .before .before .loop .inv .0) (omega arith))),
 )
 
 returns : tie.Need-returns Inv-loop μ-loop
-returns c = holds (λ k a. ⊎-elim (λ l. (c .before .before .loop .inv .3) (c .if1 .taken) k a (omega arith)) (λ g. laws.past (now (c .before .before .before .args .cuts)) (pos 0) k g) (laws.lt-or-le k (length (now (c .before .before .before .args .cuts)))))
+returns c = holds (λ k a. ⊎-elim (λ l. (c .before .before .loop .inv .2) (c .if1 .taken) k a (omega arith)) (λ g. laws.past (now (c .before .before .before .args .cuts)) (pos 0) k g) (laws.lt-or-le k (length (now (c .before .before .before .args .cuts)))))
 
 returns-2 : tie.Need-returns-2 Inv-loop μ-loop
-returns-2 c = fails (λ p. (c .if1 .left) ((c .before .before .loop .inv .4) (λ k a b. p k a)))
+returns-2 c = fails (λ p. (c .if1 .left) ((c .before .before .loop .inv .3) (λ k a b. p k a)))
 
 pub blanks-from-spec : {M : Type 1} → statement M
-blanks-from-spec =
-    tie.close
-    (tie.spec
+blanks-from-spec = tie.close (tie.spec
     Inv-loop
     μ-loop
     loop-holds
-    (λ c κs. search needs)
-    add-full
+    (λ c. search needs)
+    (λ c. search needs)
     (λ c. search needs)
     (λ c. search needs)
     loop-again

@@ -1,7 +1,7 @@
 -- `words::one_for` meets its contract. Assumes nothing.
 use mathlib.Core.Path.{ap, sym}
 use native.Mathlib.Omega.{arith}
-use Rattle.table.specs.Checking.{some}
+use Rattle.chains.specs.Local.{some}
 use Rattle.table.proofs.Laws as laws
 use Rattle.table.proofs.words.one_for.Statement.{statement}
 use Rattle.table.proofs.words.one_for.Tie as tie
