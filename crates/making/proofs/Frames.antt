@@ -12,10 +12,11 @@ use Rattle.ids.specs.Id.{sign, ref}
 use Rattle.ranges.specs.Line.{Cut}
 use Rattle.diagram.specs.Pieces.{last, cut}
 use Rattle.table.specs.Layout.{varAt, countAt, firstAt, kidAt, cutAt, room, start, cutPosition, Store}
-use Rattle.table.specs.Indexed.{hashTo, bucketAt}
+use Rattle.chains.proofs.Lexical.{key-same}
+use Rattle.table.specs.Indexed.{hashTo, hashAt, bucketAt, keyAt}
 use Rattle.table.specs.Lent.{Stands, KidsStand, Cuts, Blank, Rules, SameRun, SameRecord}
 use Rattle.table.specs.Held.{edgesFrom, edgesAt, nodeAt, held}
-use Rattle.making.specs.Growing.{OneMore}
+use Rattle.making.specs.Growing.{MoreWords}
 use Rattle.table.proofs.Laws as laws
 use Rattle.table.proofs.Whole.{bucket-lt}
 use Rattle.table.proofs.Bridge.{range-edges, bool-edges}
@@ -31,15 +32,15 @@ pub agree-sym : {u e : ℕ} {st : Store} {st′ : Store} → Agree u e st st′ 
 agree-sym a = record { word = λ i l. sym (a .word i l); child = λ i l. sym (a .child i l); cut = λ i l. sym (a .cut i l) }
 
 -- two tables that differ by node u, whose edges stand from e on, agree before
-pub more-agrees : {u e : ℕ} {st : Store} {index : List ℕ} {st′ : Store} {index′ : List ℕ} → OneMore u e st index st′ index′ → Agree u e st st′
-more-agrees m = record { word = λ i l. m .words .word i (inl l); child = λ i l. m .words .child i (inl l); cut = λ i l. m .words .cut i (inl l) }
+pub more-agrees : {u e c : ℕ} {st : Store} {st′ : Store} → MoreWords u e c st st′ → Agree u e st st′
+more-agrees m = record { word = λ i l. m .word i (inl l); child = λ i l. m .child i (inl l); cut = λ i l. m .cut i (inl l) }
 
 -- they have the same room,
-pub room-agrees : {u e : ℕ} {st : Store} {index : List ℕ} {st′ : Store} {index′ : List ℕ} → OneMore u e st index st′ index′ → room (st′ .nodes) ≡ room (st .nodes)
-room-agrees m = ap (λ (n : ℕ). n / 4) (m .words .long)
+pub room-agrees : {u e c : ℕ} {st : Store} {st′ : Store} → MoreWords u e c st st′ → room (st′ .nodes) ≡ room (st .nodes)
+room-agrees m = ap (λ (n : ℕ). n / 4) (m .long)
 
 -- and the bucket of node u is one of it
-pub bucket-in : {u e : ℕ} {st : Store} {index : List ℕ} {st′ : Store} {index′ : List ℕ} → OneMore u e st index st′ index′ → 1 ≤ room (st .nodes) → bucketAt st′ u < room (st .nodes)
+pub bucket-in : {u e c : ℕ} {st : Store} {st′ : Store} → MoreWords u e c st st′ → 1 ≤ room (st .nodes) → bucketAt st′ u < room (st .nodes)
 bucket-in {u} {st′ = st′} m h = subst (λ (r : ℕ). bucketAt st′ u < r) (room-agrees m) (bucket-lt st′ u (omega (arith, room-agrees m)))
 
 module _ {u e : ℕ} {st : Store} {st′ : Store} (a : Agree u e st st′) where
@@ -146,10 +147,10 @@ module _ {u e : ℕ} {st : Store} {st′ : Store} (a : Agree u e st st′) where
         h : firstAt (st .nodes) n + countAt (st .nodes) n ≤ e
         h = inside-agreed n l
 
-    -- and stays in its bucket
-    pub bucket-agrees : (n : ℕ) → n < u → length (st′ .nodes) ≡ length (st .nodes) → bucketAt st′ n ≡ bucketAt st n
-    unfolding bucketAt
-    bucket-agrees n l long = λ i. hash i * (long i / 4) / 2 ^ 32
+    -- keeps its hash,
+    pub hash-at-agrees : (n : ℕ) → n < u → hashAt st′ n ≡ hashAt st n
+    unfolding hashAt
+    hash-at-agrees n l = (λ i. hashTo (st′ .children) (st′ .cuts) (v i) (f i) (c i)) ∙ hash-agrees (varAt (st .nodes) n) (firstAt (st .nodes) n) (countAt (st .nodes) n) (inside-agreed n l)
       where
         v : varAt (st′ .nodes) n ≡ varAt (st .nodes) n
         v = var-agrees n l
@@ -160,8 +161,21 @@ module _ {u e : ℕ} {st : Store} {st′ : Store} (a : Agree u e st st′) where
         f : firstAt (st′ .nodes) n ≡ firstAt (st .nodes) n
         f = first-agrees n l
 
-        hash : hashTo (st′ .children) (st′ .cuts) (varAt (st′ .nodes) n) (firstAt (st′ .nodes) n) (countAt (st′ .nodes) n) ≡ hashTo (st .children) (st .cuts) (varAt (st .nodes) n) (firstAt (st .nodes) n) (countAt (st .nodes) n)
-        hash = (λ i. hashTo (st′ .children) (st′ .cuts) (v i) (f i) (c i)) ∙ hash-agrees (varAt (st .nodes) n) (firstAt (st .nodes) n) (countAt (st .nodes) n) (inside-agreed n l)
+    -- stays in its bucket,
+    pub bucket-agrees : (n : ℕ) → n < u → length (st′ .nodes) ≡ length (st .nodes) → bucketAt st′ n ≡ bucketAt st n
+    unfolding bucketAt
+    bucket-agrees n l long = let hash = hash-at-agrees n l in λ i. hash i * (long i / 4) / 2 ^ 32
+
+    -- is ordered by the same,
+    pub key-agrees : (n : ℕ) → n < u → keyAt st′ n ≡ keyAt st n
+    unfolding keyAt
+    key-agrees n l = key-same _ _ _ _ _ _ _ _ _ _ (record { hash = hash-at-agrees n l; variable = var-agrees n l; count = count-agrees n l; edges = λ j b. (child j b, end j b) })
+      where
+        child : (j : ℕ) → j < countAt (st′ .nodes) n → kidAt (st′ .children) (firstAt (st′ .nodes) n + j) ≡ kidAt (st .children) (firstAt (st .nodes) n + j)
+        child j b = ap (λ (i : ℕ). kidAt (st′ .children) (i + j)) (first-agrees n l) ∙ a .child (firstAt (st .nodes) n + j) (omega (arith, inside-agreed n l, count-agrees n l))
+
+        end : (j : ℕ) → j < countAt (st′ .nodes) n → cutPosition (cutAt (st′ .cuts) (firstAt (st′ .nodes) n + j)) ≡ cutPosition (cutAt (st .cuts) (firstAt (st .nodes) n + j))
+        end j b = ap (λ (i : ℕ). cutPosition (cutAt (st′ .cuts) (i + j))) (first-agrees n l) ∙ ap cutPosition (a .cut (firstAt (st .nodes) n + j) (omega (arith, inside-agreed n l, count-agrees n l)))
 
     -- and is the same node
     pub node-agrees : (n : ℕ) → n < u → nodeAt st′ n ≡ nodeAt st n

@@ -1,7 +1,7 @@
 -- Keys and hash of a node under construction. Assumes nothing.
 use mathlib.Core.Path.{_≡_, refl, sym, _∙_, ap}
 use mathlib.Core.Bool.{Bool, true, false, cond, _&&_, and-eq-true-iff}
-use Prim.Native.Nat.{ℕ, _+_, _≤_, _<_}
+use Prim.Native.Nat.{ℕ, zero, suc, _+_, _≤_, _<_}
 use native.Mathlib.Omega.{arith}
 use native.Mathlib.Numerals.{add-one}
 use borrow.Author.Tests.{lt-ltb, le-ltb, ltb-true}
@@ -64,3 +64,8 @@ hash-none v s es h = omega arith
 pub hash-next : (v s : ℕ) (es : built.Edges) (j : ℕ) → hashIn v s es (j + 1) ≡ mix (hashIn v s es j) (under s (childIn es j)) (keyIn v es j)
 unfolding hashIn
 hash-next v s es j = ap (hashIn v s es) (add-one j)
+
+pub hash-in-lt : (v s : ℕ) (es : built.Edges) (j : ℕ) → hashIn v s es j < 4294967296
+unfolding hashIn
+hash-in-lt v s es zero = omega arith
+hash-in-lt v s es (suc j) = omega arith

@@ -2,13 +2,15 @@
 pub mod Arrays
 pub mod Hashing
 pub mod Matching
+pub mod Fronts
+pub mod Walked
 pub mod Finding
 pub mod Pairs
 pub mod Slots
 pub mod Merged
 pub mod Stores
 pub mod Stored
-pub mod Lasts
+pub mod Spliced
 pub mod Frames
 pub mod Grown
 pub mod Shrunk

@@ -10,14 +10,15 @@ use Rattle.diagram.specs.Pieces.{Pieces, last, cut, count, Reduced, run}
 use Rattle.diagram.specs.Table.{topOf, Node}
 use Rattle.diagram.proofs.Numbered.{count-run, run-shift, map-run}
 use Rattle.table.specs.Layout.{varAt, countAt, firstAt, kidAt, cutAt, room, start, cutPosition, Store}
-use Rattle.table.specs.Indexed.{hashTo, bucketAt}
+use Rattle.chains.proofs.Lexical.{key-same, key-tells}
+use Rattle.table.specs.Indexed.{hashTo, hashAt, bucketAt, keyAt}
 use Rattle.table.specs.Lent.{Rules}
 use Rattle.table.specs.Held.{edgesFrom, nodeAt}
 use Rattle.table.proofs.Laws.{lt-or-le, mix-at-equal}
 use Rattle.table.proofs.Bridge.{kid-of, cut-of, edges-run, range-edges, bool-edges}
 use Rattle.table.proofs.Determined.{count-node, kid-node, cut-position-node, no-cut-last, no-cut-bool}
 use Rattle.making.specs.declared.edges.Edges as built
-use Rattle.making.specs.Building.{childIn, cutIn, piecesOf, nodeOf, keyIn, hashIn, Matches}
+use Rattle.making.specs.Building.{childIn, cutIn, piecesOf, nodeOf, keyIn, hashIn, contentOf, Matches}
 use Rattle.making.proofs.Arrays.{kid-run, cut-run, bool-two, bool-cut}
 use Rattle.making.proofs.Hashing.{key-own, key-last, key-bool}
 
@@ -101,16 +102,25 @@ module _ {st : Store} {n v s : ℕ} {es : built.Edges} (m : Matches st n v s es)
   hash-to zero h = let e = m .variable in omega arith
   hash-to (suc j) h = mix-at-equal (hash-to j (omega arith)) (m .child j (omega arith)) (m .cut j (omega arith))
 
-  pub hash-matches : hashTo (st .children) (st .cuts) (varAt (st .nodes) n) (firstAt (st .nodes) n) (countAt (st .nodes) n) ≡ hashIn v s es (es .len)
+  pub hash-matches : hashAt st n ≡ hashIn v s es (es .len)
+  unfolding hashAt
   hash-matches = ap (hashTo (st .children) (st .cuts) (varAt (st .nodes) n) (firstAt (st .nodes) n)) (m .count) ∙ hash-to (es .len) (omega arith)
 
   pub bucket-matches : bucketAt st n ≡ hashIn v s es (es .len) * room (st .nodes) / 4294967296
   unfolding bucketAt
   bucket-matches = ap (λ (h : ℕ). h * room (st .nodes) / 4294967296) hash-matches
 
--- edge j of a record, where its first edge is known by another name
-pub kid-at : (children : List ℕ) {a b : ℕ} (j : ℕ) → a ≡ b → kidAt children (a + j) ≡ kidAt children (b + j)
-kid-at children j e = ap (λ (i : ℕ). kidAt children (i + j)) e
+  -- and what it is ordered by
+  pub content-matches : keyAt st n ≡ contentOf v s es
+  unfolding keyAt contentOf
+  content-matches = key-same _ _ _ _ _ _ _ _ _ _ (record { hash = hash-matches; variable = m .variable; count = m .count; edges = λ j l. (m .child j (omega (arith, m .count)), m .cut j (omega (arith, m .count))) })
 
-pub cut-at : (cuts : List ℤ) {a b : ℕ} (j : ℕ) → a ≡ b → cutPosition (cutAt cuts (a + j)) ≡ cutPosition (cutAt cuts (b + j))
-cut-at cuts j e = ap (λ (i : ℕ). cutPosition (cutAt cuts (i + j))) e
+-- A record that is ordered by the same matches.
+pub matches-content : {st : Store} {n v s : ℕ} {es : built.Edges} → keyAt st n ≡ contentOf v s es → Matches st n v s es
+unfolding keyAt contentOf
+matches-content e = let k = key-tells _ _ _ _ _ _ _ _ _ _ e in record {
+  variable = k .variable;
+  count = k .count;
+  child = λ j l. k .edges j (omega (arith, k .count)) .0;
+  cut = λ j l. k .edges j (omega (arith, k .count)) .1;
+}

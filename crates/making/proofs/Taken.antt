@@ -24,7 +24,7 @@ pub cuts-as-long : {n c k i n′ c′ k′ i′ : ℕ} → Lengths n c k i → L
 cuts-as-long a b e = b .cut-each ∙ e ∙ sym (a .cut-each)
 
 pub index-as-long : {n c k i n′ c′ k′ i′ : ℕ} → Lengths n c k i → Lengths n′ c′ k′ i′ → n′ ≡ n → i′ ≡ i
-index-as-long a b e = b .indexed ∙ ap (λ (m : ℕ). m / 4 * 2) e ∙ sym (a .indexed)
+index-as-long a b e = b .indexed ∙ ap (λ (m : ℕ). m / 4 * 4) e ∙ sym (a .indexed)
 
 -- Taken back to where it began, a table is as it was, word for word: it agrees with itself in the used words, and the others are zero.
 module _ {h h′ h″ : Used} {st : Store} {index : List ℕ} {st′ st″ : Store} {index″ : List ℕ} (l : Lent h st index) (s : Stays h st h′ st′) (b : TakenBack (h .nodes) h′ st′ h″ st″ index″) where

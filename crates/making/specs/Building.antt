@@ -4,9 +4,11 @@ use mathlib.Core.Bool.{cond, _&&_}
 use mathlib.Core.List.{List}
 use Prim.Native.Nat.{ℕ, zero, suc, _+_, _-_, _%_, _≤_, _<_, _^_}
 use lib.Dec.{ltb}
-use lib.ListN.{length, getD}
+use lib.ListN.{length, getD, set, replicate}
 use lib.IntN.{ℤ}
 use Rattle.ids.specs.Id.{under}
+use Rattle.ids.specs.declared.NodeId.{NodeId}
+use Rattle.chains.specs.Lexical.{key}
 use Rattle.diagram.specs.Pieces.{Pieces, run}
 use Rattle.diagram.specs.Table.{isRange, Node}
 use Rattle.diagram.specs.Cofactor.{map}
@@ -51,6 +53,15 @@ keyIn v es j = cond (isRange v && ltb (j + 1) (es .len)) (cutIn es j) zeroCut
 unfoldable pub hashIn : ℕ → ℕ → built.Edges → ℕ → ℕ
 hashIn v s es zero = v % 2 ^ 32
 hashIn v s es (suc j) = mix (hashIn v s es j) (under s (childIn es j)) (keyIn v es j)
+
+-- What the node is ordered by, as the index has it of stored ones.
+unfoldable pub contentOf : ℕ → ℕ → built.Edges → List ℕ
+contentOf v s es = key (hashIn v s es (es .len)) v (es .len) (λ j. under s (childIn es j)) (keyIn v es)
+
+-- A high edge and a low one. A boolean has two positions, 0 for yes and 1 for no, so the high edge ends before 1. The code makes boolean nodes
+-- from the two ids; this is the form in which the same is said of them as of other nodes.
+unfoldable pub pairOf : NodeId → NodeId → built.Edges
+pairOf high low = record { list = set (set (replicate mostEdges none) 0 (record { cut = 1; child = high; spare = 0 })) 1 (record { cut = 0; child = low; spare = 0 }); len = 2 }
 
 -- Record n is this node.
 pub record Matches (st : Store) (n v s : ℕ) (es : built.Edges) : Type 0 where

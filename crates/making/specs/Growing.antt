@@ -5,8 +5,8 @@ use mathlib.Core.Logic.{_⊎_}
 use Prim.Native.Nat.{ℕ, suc, _+_, _*_, _≤_, _<_}
 use lib.ListN.{length, getD}
 use lib.IntN.{ℤ, pos}
-use Rattle.table.specs.Layout.{countAt, kidAt, cutAt, room, Store}
-use Rattle.table.specs.Indexed.{bucketAt}
+use Rattle.table.specs.Layout.{kidAt, cutAt, Store}
+use Rattle.making.specs.Storing.{IndexPut}
 
 -- Words of the second table, beside record n of it and the c edges from e on, are those of the first, which has zeros there.
 pub record MoreWords (n e c : ℕ) (st : Store) (st′ : Store) : Type 0 where
@@ -20,15 +20,10 @@ pub record MoreWords (n e c : ℕ) (st : Store) (st′ : Store) : Type 0 where
   pub cut : (i : ℕ) → (i < e) ⊎ (e + c ≤ i) → cutAt (st′ .cuts) i ≡ cutAt (st .cuts) i
   pub no-cut : (i : ℕ) → e ≤ i → i < e + c → cutAt (st .cuts) i ≡ pos 0
 
--- The second index has node n in front of bucket b; the first does not have it.
-pub record MoreIndex (r n b : ℕ) (index index′ : List ℕ) : Type 0 where
-  pub broad : length index′ ≡ length index
-  pub front : getD index′ b 0 ≡ suc n
-  pub next : getD index′ (r + n) 0 ≡ getD index b 0
-  pub no-next : getD index (r + n) 0 ≡ 0
-  pub other : (i : ℕ) → (i ≡ b → ⊥) → (i ≡ r + n → ⊥) → getD index′ i 0 ≡ getD index i 0
+-- The index with node n put into bucket b between the nodes of the words p and q,
+abbrev pub NodeIn : (r n b p q h : ℕ) → List ℕ → List ℕ → Type 0
+NodeIn r n b p q h = IndexPut r n b p q (suc n) (suc n) q p h
 
--- The second table has one node more than the first: record n, whose edges stand from e on.
-pub record OneMore (n e : ℕ) (st : Store) (index : List ℕ) (st′ : Store) (index′ : List ℕ) : Type 0 where
-  pub words : MoreWords n e (countAt (st′ .nodes) n) st st′
-  pub indexed : MoreIndex (room (st .nodes)) n (bucketAt st′ n) index index′
+-- and with node n, which stands there, taken out.
+abbrev pub NodeOut : (r n b p q : ℕ) → List ℕ → List ℕ → Type 0
+NodeOut r n b p q = IndexPut r n b p q q p 0 0 0

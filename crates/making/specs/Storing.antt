@@ -8,6 +8,7 @@ use lib.Dec.{ltb}
 use lib.ListN.{length, getD}
 use lib.IntN.{ℤ, pos}
 use Rattle.ids.specs.Id.{under}
+use Rattle.chains.specs.Row.{words, Stored}
 use Rattle.ranges.specs.Ending.{placeAt}
 use Rattle.diagram.specs.Table.{isRange}
 use Rattle.table.specs.Layout.{varAt, countAt, firstAt, spareAt, kidAt, cutAt}
@@ -43,3 +44,11 @@ pub record RecordPut (nodes : List ℕ) (n v count first : ℕ) (nodes′ : List
   pub counts : countAt nodes′ n ≡ count
   pub firsts : firstAt nodes′ n ≡ first
   pub spare : spareAt nodes′ n ≡ spareAt nodes n
+
+-- The words of the index around node n of bucket b are changed, which stands between the nodes of the words p and q (`Stored` says how), its
+-- hash word is h, and no other word is changed.
+pub record IndexPut (r n b p q x y v w h : ℕ) (index index′ : List ℕ) : Type 0 where
+  pub broad : length index′ ≡ length index
+  pub chained : Stored r n b p q x y v w (words index) (words index′)
+  pub hash : getD index′ (r * 3 + n) 0 ≡ h
+  pub other-hash : (m : ℕ) → (m ≡ n → ⊥) → getD index′ (r * 3 + m) 0 ≡ getD index (r * 3 + m) 0

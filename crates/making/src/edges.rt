@@ -1,15 +1,14 @@
 // A node under construction: an array by value of 64 edge structs with a count.
 ghost use mathlib.Core.Path.{_≡_};
 ghost use mathlib.Core.Bool.{cond, _&&_};
-ghost use Prim.Native.Nat.{ℕ, _+_, _-_, _<_};
+ghost use Prim.Native.Nat.{ℕ, _+_, _-_, _<_, _≤_};
 ghost use lib.Dec.{ltb};
 ghost use lib.ListN.{length};
 ghost use Rattle.ids.specs.Id.{sign};
-ghost use Rattle.diagram.specs.Pieces.{last, cut};
 ghost use Rattle.diagram.specs.Room.{mostEdges};
-ghost use Rattle.diagram.specs.Table.{variables, isRange};
+ghost use Rattle.diagram.specs.Table.{variables, firstBoolean, isRange};
 ghost use Rattle.algebra.specs.Overlay.{merge};
-ghost use Rattle.making.specs.Building.{Building, cutIn, piecesOf, zeroCut, hashIn};
+ghost use Rattle.making.specs.Building.{Building, cutIn, piecesOf, zeroCut, hashIn, pairOf};
 ghost use Rattle.making.specs.Storing.{storedCut};
 use ids::NodeId;
 use ranges::places::ZERO;
@@ -43,30 +42,6 @@ impl Edges {
         let list = [e; 64];
         Edges { list, len: 0 }
     }
-}
-
-// A high edge and a low one, merged where they agree.
-pub fn pair_of(high: NodeId, low: NodeId) -> Edges
-    ensures { λ r. ⌜ (Building r) × (piecesOf r ≡ merge (cut (high .0) 1 (last (low .0)))) ⌝ }
-{
-    let mut out = Edges::new();
-    // A boolean has two positions, 0 for yes and 1 for no, so the high edge ends before 1. No cut of a boolean is stored.
-    out.list[0] = Edge {
-        cut: 1,
-        child: high,
-        spare: 0,
-    };
-    out.len = 1;
-    if high.0 == low.0 {
-        return out;
-    }
-    out.list[1] = Edge {
-        cut: 0,
-        child: low,
-        spare: 0,
-    };
-    out.len = 2;
-    out
 }
 
 // "Neighbouring edges with equal children are merged": an edge to the child of the last one goes into its slot, else into the next.
@@ -158,4 +133,15 @@ pub fn hash_edges(v: usize, lead: NodeId, es: Edges) -> usize
         j += 1;
     }
     h
+}
+
+// The same of a boolean node, from its two children.
+pub fn hash_pair(v: usize, high: NodeId, low: NodeId) -> usize
+    requires { ⌜ (firstBoolean ≤ v) × (v < variables) ⌝ }
+    ensures { λ r. ⌜ (r ≡ hashIn v (sign (high .0)) (pairOf high low) 2) × (r < 4294967296) ⌝ }
+{
+    let a = high.negate(high);
+    let b = low.negate(high);
+    let h = mixed(v, wide(a.0), ZERO as usize);
+    mixed(h, wide(b.0), ZERO as usize)
 }

@@ -1,36 +1,35 @@
 // Node making: finding a node, adding it, and the calls that do both.
 ghost use mathlib.Core.Path.{_≡_};
+ghost use mathlib.Core.Bool.{true};
 ghost use Prim.Native.Nat.{ℕ, suc, _+_, _*_, _/_, _<_, _≤_};
 ghost use lib.ListN.{length};
-ghost use Rattle.ids.specs.Id.{sign};
+ghost use lib.IntN.{pos};
+ghost use Rattle.ids.specs.Id.{sign, under};
 ghost use Rattle.diagram.specs.Table.{variables, firstBoolean};
 ghost use Rattle.diagram.specs.Sound.{Child};
 ghost use Rattle.diagram.specs.Room.{mostEdges};
-ghost use Rattle.algebra.specs.Making.{find as found, settle as settled, create-node};
+ghost use Rattle.algebra.specs.Making.{settle as settled, create-node};
 ghost use Rattle.table.specs.Deciding.{Decides};
 ghost use Rattle.table.specs.Layout.{mostNodes, mostEdgeRoom, room, store};
-ghost use Rattle.table.specs.Lent.{Rules, SoundLent};
-ghost use Rattle.table.specs.Held.{held};
-ghost use Rattle.table.specs.Told.{Allowed};
-ghost use Rattle.making.specs.Building.{Building, Matches, childIn, cutIn, nodeOf, hashIn, piecesOf};
-ghost use Rattle.making.specs.Storing.{EdgesPut, RecordPut};
-ghost use Rattle.making.specs.Outcome.{Lent, Creates, Buildable, Mergeable, Findable, Added, create-pair, tableOf};
+ghost use Rattle.making.specs.Building.{Building, childIn, cutIn, nodeOf, hashIn, pairOf, piecesOf};
+ghost use Rattle.making.specs.Growing.{NodeIn};
+ghost use Rattle.making.specs.Seeking.{Finds};
+ghost use Rattle.making.specs.Storing.{EdgesPut, EdgesWritten, RecordPut};
+ghost use Rattle.making.specs.Outcome.{Lent, Creates, Buildable, Mergeable, Added, create-pair, tableOf};
+use super::chain::Spot;
+use super::chain::find;
+use super::chain::front_of;
+use super::chain::seek;
+use super::chain::splice;
+use super::edges::Edge;
 use super::edges::Edges;
 use super::edges::hash_edges;
-use super::edges::key_of;
+use super::edges::hash_pair;
 use super::edges::merged;
-use super::edges::pair_of;
 use super::edges::stored_cut;
 use ids::NodeId;
 use table::index::scaled;
 use table::limits::RECORD_WORDS;
-use table::words::child_at;
-use table::words::count_of;
-use table::words::cut_position_at;
-use table::words::first_of;
-use table::words::var_of;
-use table::words::wide;
-use table::words::word;
 
 // How much of a lent table is used. Its rooms are the lengths of its slices.
 pub struct Used {
@@ -45,68 +44,16 @@ pub struct Made {
     pub used: Used,
 }
 
-// Whether record n is the node of variable v with these edges, their children seen under the sign of `lead`.
-fn same_node(
-    nodes: &[u32],
-    children: &[u32],
-    cuts: &[i64],
-    n: usize,
-    v: usize,
-    lead: NodeId,
-    es: Edges,
-) -> bool
-    requires { ⌜ (n * 4 + 4 ≤ length (now nodes)) × (length (now cuts) ≡ length (now children)) × (Rules (store (now nodes) (now children) (now cuts)) n) × (Building es) ⌝ }
-    ensures { λ r. ⌜ Decides (Matches (store (now (nodes .entry)) (now (children .entry)) (now (cuts .entry))) n v (sign (lead .0)) es) r ⌝ }
+// The answer with a node that the table has. Where the flipped node was stored, the id gets the sign that the node lost.
+fn known(at: usize, lead: NodeId, used: Used) -> Made
+    requires { ⌜ at ≤ mostNodes ⌝ }
+    ensures { λ r. ⌜ (r .ok ≡ true) × (r .id .0 ≡ under (sign (lead .0)) (at * 2)) × (r .used ≡ used) ⌝ }
 {
-    let count = es.len;
-    // Two words first, and up to 64 edges only where these agree (what request K5 asks for).
-    if var_of(nodes, n) != v {
-        return false;
+    Made {
+        ok: true,
+        id: NodeId(at as u32 * 2).negate(lead),
+        used,
     }
-    if count_of(nodes, n) != count {
-        return false;
-    }
-    let first = first_of(nodes, n);
-    let mut j = 0;
-    while j < count {
-        let e = es.list[j];
-        let c = e.child.negate(lead);
-        if child_at(children, first + j) != wide(c.0) {
-            return false;
-        }
-        // By `key_of`, since the last edge of a node under construction may have any cut, where the table has 0.
-        if cut_position_at(cuts, first + j) != key_of(v, j, count, e.cut) {
-            return false;
-        }
-        j += 1;
-    }
-    true
-}
-
-// "Find it": one more than the number of the node, or 0 where the table has none. Only nodes of its bucket can be it.
-pub fn find(
-    nodes: &[u32],
-    children: &[u32],
-    cuts: &[i64],
-    index: &[u32],
-    v: usize,
-    lead: NodeId,
-    es: Edges,
-    bucket: usize,
-) -> usize
-    requires { ⌜ (Allowed (store (now nodes) (now children) (now cuts)) (now index)) × (Findable (store (now nodes) (now children) (now cuts)) (now index) v es) × (2 ≤ es .len) × (bucket ≡ hashIn v (sign (lead .0)) es (es .len) * room (now nodes) / 4294967296) × (bucket < room (now nodes)) ⌝ }
-    ensures { λ r. ⌜ ((u : ℕ) → SoundLent (store (now (nodes .entry)) (now (children .entry)) (now (cuts .entry))) (now (index .entry)) u → r ≡ found (held (store (now (nodes .entry)) (now (children .entry)) (now (cuts .entry))) u) (nodeOf v (sign (lead .0)) es)) ⌝ }
-{
-    let rooms = nodes.len() / RECORD_WORDS;
-    let mut at = word(index, bucket);
-    // Links fall, so the walk ends. The first match is the answer, since a sound table has no twins.
-    while 0 < at {
-        if same_node(nodes, children, cuts, at - 1, v, lead, es) {
-            return at;
-        }
-        at = word(index, rooms + (at - 1));
-    }
-    0
 }
 
 // Writes the edges of a node from edge e on.
@@ -127,6 +74,19 @@ fn put_edges(children: &mut [u32], cuts: &mut [i64], e: usize, v: usize, lead: N
     }
 }
 
+// Writes the two edges of a boolean node from edge e on. No cut of a boolean is stored.
+fn put_pair(children: &mut [u32], cuts: &mut [i64], e: usize, high: NodeId, low: NodeId)
+    requires { ⌜ (e + 2 ≤ length (now children)) × (length (now cuts) ≡ length (now children)) ⌝ }
+    ensures { λ _. ⌜ EdgesWritten (now (children .entry)) (now (cuts .entry)) e 2 (λ j. under (sign (high .0)) (childIn (pairOf high low) j)) (λ j. pos 0) (now (children .exit)) (now (cuts .exit)) ⌝ }
+{
+    let a = high.negate(high);
+    let b = low.negate(high);
+    children[e] = a.0;
+    cuts[e] = 0;
+    children[e + 1] = b.0;
+    cuts[e + 1] = 0;
+}
+
 // Writes record n; its fourth word is 0 and stays so.
 pub fn put_record(nodes: &mut [u32], n: usize, v: u32, count: u32, first: u32)
     requires { ⌜ n * 4 + 4 ≤ length (now nodes) ⌝ }
@@ -135,6 +95,43 @@ pub fn put_record(nodes: &mut [u32], n: usize, v: u32, count: u32, first: u32)
     nodes[n * RECORD_WORDS] = v;
     nodes[n * RECORD_WORDS + 1] = count;
     nodes[n * RECORD_WORDS + 2] = first;
+}
+
+// The record and the index of a node whose edges are written behind the used ones, at the spot that was found for it.
+fn enter(
+    nodes: &mut [u32],
+    index: &mut [u32],
+    used: Used,
+    v: usize,
+    count: usize,
+    h: usize,
+    s: Spot,
+) -> Used
+    requires { ⌜ (length (now index) ≡ room (now nodes) * 4) × (room (now nodes) ≤ mostNodes) × (used .nodes < room (now nodes)) × (used .edges ≤ mostEdgeRoom) × (v < variables) × (count ≤ mostEdges) × (h < 4294967296) × (s .before ≤ used .nodes) × (s .behind ≤ used .nodes) ⌝ }
+    ensures { λ r. ⌜ (RecordPut (now (nodes .entry)) (used .nodes) v count (used .edges) (now (nodes .exit))) × (NodeIn (room (now (nodes .entry))) (used .nodes) (h * room (now (nodes .entry)) / 4294967296) (s .before) (s .behind) h (now (index .entry)) (now (index .exit))) × (r .nodes ≡ used .nodes + 1) × (r .edges ≡ used .edges + count) ⌝ }
+{
+    let rooms = nodes.len() / RECORD_WORDS;
+    let n = used.nodes;
+    let e = used.edges;
+    put_record(nodes, n, v as u32, count as u32, e as u32);
+    let one = n as u32 + 1;
+    splice(
+        index,
+        rooms,
+        n,
+        scaled(h, rooms),
+        s.before,
+        s.behind,
+        one,
+        one,
+        s.behind as u32,
+        s.before as u32,
+        h as u32,
+    );
+    Used {
+        nodes: n + 1,
+        edges: e + count,
+    }
 }
 
 // "Or add it as the next number", where there is room for it.
@@ -147,25 +144,34 @@ fn add(
     v: usize,
     lead: NodeId,
     es: Edges,
-    bucket: usize,
+    h: usize,
+    s: Spot,
 ) -> Used
-    requires { ⌜ (Lent used (store (now nodes) (now children) (now cuts)) (now index)) × (Buildable (tableOf used (store (now nodes) (now children) (now cuts))) v es) × (2 ≤ es .len) × (lead .0 ≡ childIn es 0) × (bucket ≡ hashIn v (sign (lead .0)) es (es .len) * room (now nodes) / 4294967296) × (bucket < room (now nodes)) × (used .nodes < room (now nodes)) × (used .edges + es .len ≤ length (now children)) × (found (tableOf used (store (now nodes) (now children) (now cuts))) (nodeOf v (sign (lead .0)) es) ≡ 0) ⌝ }
+    requires { ⌜ (Lent used (store (now nodes) (now children) (now cuts)) (now index)) × (Buildable (tableOf used (store (now nodes) (now children) (now cuts))) v es) × (2 ≤ es .len) × (lead .0 ≡ childIn es 0) × (h ≡ hashIn v (sign (lead .0)) es (es .len)) × (Finds (store (now nodes) (now children) (now cuts)) (used .nodes) v (sign (lead .0)) es s) × (s .at ≡ 0) × (used .nodes < room (now nodes)) × (used .edges + es .len ≤ length (now children)) ⌝ }
     ensures { λ r. ⌜ Added used (nodeOf v (sign (lead .0)) es) r (store (now (nodes .entry)) (now (children .entry)) (now (cuts .entry))) (store (now (nodes .exit)) (now (children .exit)) (now (cuts .exit))) (now (index .exit)) ⌝ }
 {
-    let rooms = nodes.len() / RECORD_WORDS;
-    let n = used.nodes;
-    let e = used.edges;
-    let count = es.len;
-    let before = index[bucket];
-    put_edges(children, cuts, e, v, lead, es);
-    put_record(nodes, n, v as u32, count as u32, e as u32);
-    // In front of its bucket, with the node that stood there as its link: so links fall, and two words of the index take it back.
-    index[rooms + n] = before;
-    index[bucket] = n as u32 + 1;
-    Used {
-        nodes: n + 1,
-        edges: e + count,
-    }
+    put_edges(children, cuts, used.edges, v, lead, es);
+    enter(nodes, index, used, v, es.len, h, s)
+}
+
+// The same for a boolean node.
+fn add_pair(
+    nodes: &mut [u32],
+    children: &mut [u32],
+    cuts: &mut [i64],
+    index: &mut [u32],
+    used: Used,
+    v: usize,
+    high: NodeId,
+    low: NodeId,
+    h: usize,
+    s: Spot,
+) -> Used
+    requires { ⌜ (Lent used (store (now nodes) (now children) (now cuts)) (now index)) × (Buildable (tableOf used (store (now nodes) (now children) (now cuts))) v (pairOf high low)) × (firstBoolean ≤ v) × (h ≡ hashIn v (sign (high .0)) (pairOf high low) 2) × (Finds (store (now nodes) (now children) (now cuts)) (used .nodes) v (sign (high .0)) (pairOf high low) s) × (s .at ≡ 0) × (used .nodes < room (now nodes)) × (used .edges + 2 ≤ length (now children)) ⌝ }
+    ensures { λ r. ⌜ Added used (nodeOf v (sign (high .0)) (pairOf high low)) r (store (now (nodes .entry)) (now (children .entry)) (now (cuts .entry))) (store (now (nodes .exit)) (now (children .exit)) (now (cuts .exit))) (now (index .exit)) ⌝ }
+{
+    put_pair(children, cuts, used.edges, high, low);
+    enter(nodes, index, used, v, 2, h, s)
 }
 
 // Whether there is room for one node more, with `count` edges.
@@ -192,9 +198,10 @@ pub fn extend(
     v: usize,
     lead: NodeId,
     es: Edges,
-    bucket: usize,
+    h: usize,
+    s: Spot,
 ) -> Made
-    requires { ⌜ (Lent used (store (now nodes) (now children) (now cuts)) (now index)) × (Buildable (tableOf used (store (now nodes) (now children) (now cuts))) v es) × (2 ≤ es .len) × (lead .0 ≡ childIn es 0) × (bucket ≡ hashIn v (sign (lead .0)) es (es .len) * room (now nodes) / 4294967296) × (bucket < room (now nodes)) × (found (tableOf used (store (now nodes) (now children) (now cuts))) (nodeOf v (sign (lead .0)) es) ≡ 0) ⌝ }
+    requires { ⌜ (Lent used (store (now nodes) (now children) (now cuts)) (now index)) × (Buildable (tableOf used (store (now nodes) (now children) (now cuts))) v es) × (2 ≤ es .len) × (lead .0 ≡ childIn es 0) × (h ≡ hashIn v (sign (lead .0)) es (es .len)) × (Finds (store (now nodes) (now children) (now cuts)) (used .nodes) v (sign (lead .0)) es s) × (s .at ≡ 0) ⌝ }
     ensures { λ r. ⌜ Creates used (settled (tableOf used (store (now (nodes .entry)) (now (children .entry)) (now (cuts .entry)))) v (piecesOf es)) r (store (now (nodes .entry)) (now (children .entry)) (now (cuts .entry))) (now (index .entry)) (store (now (nodes .exit)) (now (children .exit)) (now (cuts .exit))) (now (index .exit)) ⌝ }
 {
     if !has_room(nodes.len() / RECORD_WORDS, children.len(), used, es.len) {
@@ -204,13 +211,36 @@ pub fn extend(
             used,
         };
     }
-    let next = add(nodes, children, cuts, index, used, v, lead, es, bucket);
-    // Its number is one less than the nodes now used. Where the flipped node was stored, the id gets the sign that the node lost.
-    Made {
-        ok: true,
-        id: NodeId(next.nodes as u32 * 2).negate(lead),
-        used: next,
+    let next = add(nodes, children, cuts, index, used, v, lead, es, h, s);
+    // Its number is one less than the nodes now used.
+    known(next.nodes, lead, next)
+}
+
+// The same for a boolean node.
+fn extend_pair(
+    nodes: &mut [u32],
+    children: &mut [u32],
+    cuts: &mut [i64],
+    index: &mut [u32],
+    used: Used,
+    v: usize,
+    high: NodeId,
+    low: NodeId,
+    h: usize,
+    s: Spot,
+) -> Made
+    requires { ⌜ (Lent used (store (now nodes) (now children) (now cuts)) (now index)) × (Buildable (tableOf used (store (now nodes) (now children) (now cuts))) v (pairOf high low)) × (firstBoolean ≤ v) × (h ≡ hashIn v (sign (high .0)) (pairOf high low) 2) × (Finds (store (now nodes) (now children) (now cuts)) (used .nodes) v (sign (high .0)) (pairOf high low) s) × (s .at ≡ 0) ⌝ }
+    ensures { λ r. ⌜ Creates used (settled (tableOf used (store (now (nodes .entry)) (now (children .entry)) (now (cuts .entry)))) v (piecesOf (pairOf high low))) r (store (now (nodes .entry)) (now (children .entry)) (now (cuts .entry))) (now (index .entry)) (store (now (nodes .exit)) (now (children .exit)) (now (cuts .exit))) (now (index .exit)) ⌝ }
+{
+    if !has_room(nodes.len() / RECORD_WORDS, children.len(), used, 2) {
+        return Made {
+            ok: false,
+            id: NodeId::FALSE,
+            used,
+        };
     }
+    let next = add_pair(nodes, children, cuts, index, used, v, high, low, h, s);
+    known(next.nodes, high, next)
 }
 
 // The id of variable v over merged edges: "drop the node if all children agree, else find it or add it as the next number". Where there is
@@ -239,17 +269,13 @@ pub fn settle(
     }
     // "Flip if the first child is complemented", since a node and its flipped twin would be two ids for one condition. No copy is made:
     // the node is hashed, compared and stored with each child seen under the sign of the first, and its id gets that sign.
-    let bucket = scaled(hash_edges(v, lead, es), nodes.len() / RECORD_WORDS);
+    let h = hash_edges(v, lead, es);
     // Looked for before room is asked for: a full table still answers with the nodes that it has (C16).
-    let at = find(nodes, children, cuts, index, v, lead, es, bucket);
-    if 0 < at {
-        return Made {
-            ok: true,
-            id: NodeId(at as u32 * 2).negate(lead),
-            used,
-        };
+    let s = find(nodes, children, cuts, index, v, lead, es, h);
+    if 0 < s.at {
+        return known(s.at, lead, used);
     }
-    extend(nodes, children, cuts, index, used, v, lead, es, bucket)
+    extend(nodes, children, cuts, index, used, v, lead, es, h, s)
 }
 
 // Node making, from edges whose neighbours may still agree: "neighbouring edges with equal children are merged first". `create_node` of the
@@ -269,8 +295,8 @@ pub fn create_node(
     settle(nodes, children, cuts, index, used, v, merged(es))
 }
 
-// The same for a boolean variable, from its two children. Conjunction makes its boolean nodes by this call, so that the array of edges is
-// on the stack only while a node is made, and not once for each variable that the walk has gone down.
+// The same for a boolean variable, from its two children. Most nodes of a diagram over booleans are made by this call: they are hashed, looked
+// for and written from the two ids, and no array of edges is set or copied.
 pub fn create_pair(
     nodes: &mut [u32],
     children: &mut [u32],
@@ -284,5 +310,36 @@ pub fn create_pair(
     requires { ⌜ (Lent used (store (now nodes) (now children) (now cuts)) (now index)) × (firstBoolean ≤ v) × (v < variables) × (Child (tableOf used (store (now nodes) (now children) (now cuts))) (suc v) (high .0)) × (Child (tableOf used (store (now nodes) (now children) (now cuts))) (suc v) (low .0)) ⌝ }
     ensures { λ r. ⌜ Creates used (create-pair (tableOf used (store (now (nodes .entry)) (now (children .entry)) (now (cuts .entry)))) v (high .0) (low .0)) r (store (now (nodes .entry)) (now (children .entry)) (now (cuts .entry))) (now (index .entry)) (store (now (nodes .exit)) (now (children .exit)) (now (cuts .exit))) (now (index .exit)) ⌝ }
 {
-    settle(nodes, children, cuts, index, used, v, pair_of(high, low))
+    // "Drop the node if all children agree".
+    if high.0 == low.0 {
+        return Made {
+            ok: true,
+            id: high,
+            used,
+        };
+    }
+    let a = Edge {
+        cut: 1,
+        child: high,
+        spare: 0,
+    };
+    let b = Edge {
+        cut: 0,
+        child: low,
+        spare: 0,
+    };
+    let h = hash_pair(v, high, low);
+    let s = seek(
+        nodes,
+        children,
+        cuts,
+        index,
+        h,
+        front_of(v, high, 2, a, b),
+        0,
+    );
+    if 0 < s.at {
+        return known(s.at, high, used);
+    }
+    extend_pair(nodes, children, cuts, index, used, v, high, low, h, s)
 }

@@ -6,14 +6,14 @@ ghost use Rattle.diagram.specs.Room.{mostEdges};
 ghost use Rattle.making.specs.Storing.{EdgesBlank};
 ghost use Rattle.making.specs.Outcome.{Lent, TakenBack};
 ghost use Rattle.table.specs.Layout.{store};
+use super::chain::splice;
 use super::nodes::Used;
 use super::nodes::put_record;
-use table::index::hash_of;
 use table::index::scaled;
 use table::limits::RECORD_WORDS;
 use table::words::count_of;
 use table::words::first_of;
-use table::words::var_of;
+use table::words::word;
 
 // Makes `count` edges from e on blank.
 fn blank_edges(children: &mut [u32], cuts: &mut [i64], e: usize, count: usize)
@@ -28,7 +28,7 @@ fn blank_edges(children: &mut [u32], cuts: &mut [i64], e: usize, count: usize)
     }
 }
 
-// Takes the last node back. It stands in front of its bucket.
+// Takes the last node back.
 fn pop(
     nodes: &mut [u32],
     children: &mut [u32],
@@ -43,11 +43,23 @@ fn pop(
     let n = used.nodes - 1;
     let count = count_of(nodes, n);
     let e = first_of(nodes, n);
-    // Worked out before the words are blanked, since no record stores its bucket.
-    let bucket = scaled(hash_of(children, cuts, var_of(nodes, n), e, count), rooms);
-    let before = index[rooms + n];
-    index[bucket] = before;
-    index[rooms + n] = 0;
+    // Its own words say where it stands in its bucket, and in which: no hash is computed again.
+    let behind = index[rooms + n];
+    let before = index[rooms * 2 + n];
+    let bucket = scaled(word(index, rooms * 3 + n), rooms);
+    splice(
+        index,
+        rooms,
+        n,
+        bucket,
+        before as usize,
+        behind as usize,
+        behind,
+        before,
+        0,
+        0,
+        0,
+    );
     blank_edges(children, cuts, e, count);
     put_record(nodes, n, 0, 0, 0);
     Used { nodes: n, edges: e }
@@ -66,7 +78,7 @@ pub fn undo(
     ensures { λ r. ⌜ TakenBack keep used (store (now (nodes .entry)) (now (children .entry)) (now (cuts .entry))) r (store (now (nodes .exit)) (now (children .exit)) (now (cuts .exit))) (now (index .exit)) ⌝ }
 {
     let mut now = used;
-    // Newest first: each is then in front of its bucket and its edges are the last ones, when its turn comes.
+    // Newest first: its edges are then the last ones, when its turn comes.
     while keep < now.nodes {
         now = pop(nodes, children, cuts, index, now);
     }
