@@ -5,12 +5,12 @@ pub mod Matching
 pub mod Fronts
 pub mod Walked
 pub mod Finding
-pub mod Pairs
 pub mod Slots
 pub mod Merged
 pub mod Stores
 pub mod Stored
 pub mod Spliced
+pub mod Pairs
 pub mod Frames
 pub mod Grown
 pub mod Shrunk

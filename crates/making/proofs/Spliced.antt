@@ -8,6 +8,7 @@ use lib.Seq.{getD-set-same, getD-set-other}
 use Rattle.chains.specs.Row.{words, from, Stored}
 use Rattle.chains.proofs.Stores.{setBack, stores, stores-stored}
 use Rattle.making.specs.Storing.{IndexPut}
+use Rattle.making.specs.Growing.{NodeIn}
 
 back-some : (l : List ℕ) (r q y : ℕ) → 0 < q → setBack l r q y ≡ set l (r * 2 + (q - 1)) y
 back-some l r zero y h = absurd (omega arith)
@@ -78,3 +79,7 @@ module _ (index : List ℕ) (r n b p q x y v w h : ℕ) (long : length index ≡
     pub spliced-none : q ≤ 0 → IndexPut r n b p q x y v w h index (three at)
     unfolding all
     spliced-none g = subst (λ (k : ℕ). IndexPut r n b p q x y v w h index (three k)) (sym is) (subst (IndexPut r n b p q x y v w h index) (back-none (three (from r b p)) r q y g) put)
+
+-- A node that comes in, by other names of its word and its bucket.
+pub node-in : {r n b c p q x h : ℕ} {index index′ : List ℕ} → x ≡ suc n → b ≡ c → IndexPut r n b p q x x q p h index index′ → NodeIn r n c p q h index index′
+node-in {r} {n} {b} {c} {p} {q} {x} {h} {index} {index′} d e i = subst (λ (k : ℕ). NodeIn r n k p q h index index′) e (subst (λ (k : ℕ). IndexPut r n b p q k k q p h index index′) d i)

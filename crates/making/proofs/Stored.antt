@@ -49,7 +49,7 @@ last-cut v j count k l = go (isRange v)
     go true = rw (le-ltb (j + 1) count l)
     go false = refl
 
-bool-none : (v j count k : ℕ) → firstBoolean ≤ v → storedCut v j count k ≡ pos 0
+pub bool-none : (v j count k : ℕ) → firstBoolean ≤ v → storedCut v j count k ≡ pos 0
 bool-none v j count k h = rw (le-ltb v firstBoolean h)
 
 -- The cut that is stored is the key of its edge.

@@ -1,9 +1,11 @@
 -- The walk down a bucket, as the code has it: at a word that is not 0 stands the node of one less. Assumes nothing.
 use mathlib.Core.Path.{_≡_, refl, sym, _∙_, ap, subst}
 use mathlib.Core.Bool.{true}
+use mathlib.Core.Logic.{⊎-elim}
 use mathlib.Core.List.{List, _∷_, _++_}
 use Prim.Native.Nat.{ℕ, zero, suc, _+_, _-_, _*_, _≤_, _<_}
 use native.Mathlib.Omega.{arith}
+use native.Mathlib.Nat.{eq-or-lt-of-le}
 use lib.ListN.{getD}
 use Rattle.chains.specs.Before.{Strict}
 use Rattle.chains.specs.Lexical.{less}
@@ -19,7 +21,7 @@ use Rattle.table.proofs.Laws as laws
 use Rattle.table.proofs.Whole.{bucket-lt}
 use Rattle.making.specs.declared.chain.Front.{Front}
 use Rattle.making.specs.declared.chain.Spot.{Spot}
-use Rattle.making.specs.Seeking.{Ordered, frontAt, restAt, frontOf, fronted, bucketOf, Low, High, Place, Walks, Passed, far, Sought}
+use Rattle.making.specs.Seeking.{Ordered, frontAt, restAt, frontOf, fronted, bucketOf, Low, High, Place, Walks, Passed, far, Seekable, Sought, Seeks}
 use Rattle.making.proofs.Fronts.{key-front}
 
 pub from-some : (r b p : ℕ) → 0 < p → r + (p - 1) ≡ from r b p
@@ -29,6 +31,13 @@ from-some r b (suc m) h = omega arith
 pub from-none : (r b p : ℕ) → p ≤ 0 → b ≡ from r b p
 from-none r b zero h = refl
 from-none r b (suc m) h = absurd (omega arith)
+
+-- what is left of two answers, and of two numbers
+pub not-same : {r : ℕ} → (r ≡ 1 → ⊥) → r ≤ 1 → r ≡ 0
+not-same d l = ⊎-elim (λ e. absurd (d e)) (λ g. omega arith) (eq-or-lt-of-le l)
+
+pub not-equal : {a b : ℕ} → a ≤ b → (a ≡ b → ⊥) → a < b
+not-equal l d = ⊎-elim (λ e. absurd (d e)) (λ g. g) (eq-or-lt-of-le l)
 
 pub far-ends : (st : Store) (x : ℕ) → 0 < x → far st 0 < far st x
 far-ends st zero l = absurd (omega arith)
@@ -114,3 +123,50 @@ sought-node st index u h f rest {p} {x} l w e = record {
 -- or a place
 pub sought-place : (st : Store) (index : List ℕ) (u h : ℕ) (f : Front) (rest : List ℕ) {p q : ℕ} → Place st u (bucketOf st h) (fronted h f rest) p q → Sought st index u h f rest (record { at = 0; before = p; behind = q })
 sought-place st index u h f rest w = record { walks = λ g. absurd (omega arith); front = λ m g. absurd (omega arith); placed = λ g. w }
+
+-- The search as a loop: it has come from the word p, and stands at the word x.
+pub record Going (st : Store) (index : List ℕ) (h : ℕ) (f : Front) (start p x : ℕ) : Type 0 where
+  pub walks : (u : ℕ) → SoundLent st index u → (rest : List ℕ) → Passed st u (bucketOf st h) (fronted h f rest) start → Walks st index u (bucketOf st h) (fronted h f rest) p x
+  pub nearer : 0 < start → far st x < far st start
+
+module _ (st : Store) (index : List ℕ) (h : ℕ) (f : Front) (start : ℕ) (some : 1 ≤ room (st .nodes)) (small : h < 4294967296) (k : Seekable st index h f start) where
+  abbrev b : ℕ
+  b = bucketOf st h
+
+  b-lt : bucketOf st h < room (st .nodes)
+  b-lt = laws.scaled-lt h (room (st .nodes)) small some
+
+  pub going-from : start ≤ room (st .nodes)
+  going-from = omega (arith, passed-within st (k .used) b (fronted h f (k .rest)) start (k .passed), k .sound .records .fits)
+
+  pub going-starts : {x : ℕ} → x ≡ getD index (from (room (st .nodes)) (bucketOf st h) start) 0 → Going st index h f start start x
+  going-starts e = record { walks = λ u z rest w. walks-from z b b-lt (fronted h f rest) w e; nearer = λ l. walks-leave (k .sound) b b-lt (fronted h f (k .rest)) l (k .passed) e }
+
+  module _ {p x : ℕ} (g : Going st index h f start p x) where
+    module _ (l : 0 < x) where
+      at-walk : Walks st index (k .used) b (fronted h f (k .rest)) p x
+      at-walk = g .walks (k .used) (k .sound) (k .rest) (k .passed)
+
+      pub going-within : x ≤ k .used
+      going-within = walks-within (k .sound) b b-lt (fronted h f (k .rest)) l at-walk .0
+
+      pub going-on : {y : ℕ} → y ≡ getD index (room (st .nodes) + (x - 1)) 0 → ((u : ℕ) → SoundLent st index u → x - 1 < u → (rest : List ℕ) → Low st (fronted h f rest) (x - 1)) → Going st index h f start x y
+      going-on e low = record {
+        walks = λ u z rest w. let v = g .walks u z rest w in walks-on z b b-lt (fronted h f rest) l v (low u z (omega (arith, walks-within z b b-lt (fronted h f rest) l v .0)) rest) e;
+        nearer = λ i. omega (arith, g .nearer i, walks-near (k .sound) b b-lt (fronted h f (k .rest)) l at-walk e);
+      }
+
+      pub going-falls : {y : ℕ} → y ≡ getD index (room (st .nodes) + (x - 1)) 0 → far st y < far st x
+      going-falls e = walks-near (k .sound) b b-lt (fronted h f (k .rest)) l at-walk e
+
+      pub seeks-node : {q : ℕ} → keyAt st (x - 1) ≡ fronted h f (restAt st (x - 1) (countAt (st .nodes) (x - 1))) → Seeks st index h f start (record { at = x; before = p; behind = q })
+      seeks-node e = record { sought = λ u z rest w. sought-node st index u h f rest l (g .walks u z rest w) e; nearer = g .nearer }
+
+      pub seeks-stop : ((u : ℕ) → SoundLent st index u → x - 1 < u → (rest : List ℕ) → High st (fronted h f rest) (x - 1)) → Seeks st index h f start (record { at = 0; before = p; behind = x })
+      seeks-stop high = record {
+        sought = λ u z rest w. let v = g .walks u z rest w in sought-place st index u h f rest (walks-stop z b b-lt (fronted h f rest) l v (high u z (omega (arith, walks-within z b b-lt (fronted h f rest) l v .0)) rest));
+        nearer = λ i. far-ends st start i;
+      }
+
+    pub seeks-end : x ≡ 0 → Seeks st index h f start (record { at = 0; before = p; behind = 0 })
+    seeks-end e = record { sought = λ u z rest w. sought-place st index u h f rest (walks-end z b b-lt (fronted h f rest) e (g .walks u z rest w)); nearer = λ i. far-ends st start i }

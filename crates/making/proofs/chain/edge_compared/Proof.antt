@@ -1,43 +1,22 @@
+-- `chain::edge_compared` meets its contract: by the child, and where that is the same by the cut. Assumes nothing.
 use borrow.Author.Needs.{needs}
+use Rattle.making.proofs.Fronts.{ordered-at, number-decided, number-further}
 use Rattle.making.proofs.chain.edge_compared.Statement.{statement}
 use Rattle.making.proofs.chain.edge_compared.Tie as tie
-use Rattle.making.proofs.chain.edge_compared.Reads as reads
-use Rattle.making.proofs.chain.edge_compared.Lts as lts
-use Rattle.making.proofs.chain.compared.Reads as compared-reads
-use Rattle.table.proofs.words.child_at.Reads as child-at-reads
-use Rattle.table.proofs.words.cut_position_at.Reads as cut-position-at-reads
 
--- src/chain.rt:76:29
-child-at-requires : tie.Need-child-at-requires
-child-at-requires c κs = search needs
-
--- src/chain.rt:76:9
-compared-requires : tie.Need-compared-requires
-compared-requires c κs = search needs
-
--- src/chain.rt:78:9
 returns : tie.Need-returns
-returns c = ?
+returns c = number-decided _ _ (c .before .before .child-at .ensures .0) (c .before .compared .ensures) (c .if1 .taken)
 
--- src/chain.rt:80:14
-cut-position-at-requires : tie.Need-cut-position-at-requires
-cut-position-at-requires c κs = search needs
-
--- src/chain.rt:80:5
-compared-requires-2 : tie.Need-compared-requires-2
-compared-requires-2 c κs = search needs
-
--- src/chain.rt:72:1
 returns-2 : tie.Need-returns-2
-returns-2 c = ?
+returns-2 c = number-further (c .before .before .before .before .child-at .ensures .0) (c .before .before .before .compared .ensures) (c .before .before .if1 .left) (ordered-at (c .before .cut-position-at .ensures .0) (c .compared2 .ensures))
 
 pub edge-compared-spec : {M : Type 1} → statement M
 edge-compared-spec =
     tie.close
     (tie.spec
-    child-at-requires
-    compared-requires
+    (λ c κs. search needs)
+    (λ c κs. search needs)
     returns
-    cut-position-at-requires
-    compared-requires-2
+    (λ c κs. search needs)
+    (λ c κs. search needs)
     returns-2)

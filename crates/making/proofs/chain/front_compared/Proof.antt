@@ -1,75 +1,47 @@
+-- `chain::front_compared` meets its contract: part by part, until one decides. Assumes nothing.
+use mathlib.Core.Path.{refl, ap}
+use mathlib.Core.List.{List, [], _∷_}
+use Prim.Native.Nat.{ℕ, _+_}
+use native.Mathlib.Omega.{arith}
 use borrow.Author.Needs.{needs}
+use denote.Ref.{now}
+use Rattle.making.proofs.Fronts.{number-decided, number-further, ordered-decided, ordered-further, edge-at-equal}
 use Rattle.making.proofs.chain.front_compared.Statement.{statement}
 use Rattle.making.proofs.chain.front_compared.Tie as tie
-use Rattle.making.proofs.chain.front_compared.Reads as reads
-use Rattle.making.proofs.chain.front_compared.Lts as lts
-use Rattle.making.proofs.chain.compared.Reads as compared-reads
-use Rattle.making.proofs.chain.edge_compared.Reads as edge-compared-reads
-use Rattle.table.proofs.words.count_of.Reads as count-of-reads
-use Rattle.table.proofs.words.first_of.Reads as first-of-reads
-use Rattle.table.proofs.words.var_of.Reads as var-of-reads
 
--- src/chain.rt:95:32
-var-of-requires : tie.Need-var-of-requires
-var-of-requires c κs = search needs
-
--- src/chain.rt:95:9
-compared-requires : tie.Need-compared-requires
-compared-requires c κs = search needs
-
--- src/chain.rt:97:9
 returns : tie.Need-returns
-returns c = ?
+returns c = number-decided _ _ (c .before .before .var-of .ensures .0) (c .before .compared .ensures) (c .if1 .taken)
 
--- src/chain.rt:99:29
-count-of-requires : tie.Need-count-of-requires
-count-of-requires c κs = search needs
-
--- src/chain.rt:99:9
-compared-requires-2 : tie.Need-compared-requires-2
-compared-requires-2 c κs = search needs
-
--- src/chain.rt:101:9
 returns-2 : tie.Need-returns-2
-returns-2 c = ?
+returns-2 c = number-further (c .before .before .before .before .before .var-of .ensures .0) (c .before .before .before .before .compared .ensures) (c .before .before .before .if1 .left) (number-decided _ _ (c .before .before .count-of .ensures .0) (c .before .compared2 .ensures) (c .if2 .taken))
 
--- src/chain.rt:103:9
-first-of-requires : tie.Need-first-of-requires
-first-of-requires c κs = search needs
-
--- src/chain.rt:104:9
 edge-compared-requires : tie.Need-edge-compared-requires
-edge-compared-requires c κs = search needs
+edge-compared-requires c κs = (omega (arith, (c .first-of .ensures .0), (c .before .before .before .before .before .before .before .before .before .pre .2 .inside), (c .before .before .before .before .before .before .before .before .before .pre .2 .many)), (c .before .before .before .before .before .before .before .before .before .pre .1))
 
--- src/chain.rt:106:9
 returns-3 : tie.Need-returns-3
-returns-3 c = ?
+returns-3 c = number-further (c .before .before .before .before .before .before .before .before .var-of .ensures .0) (c .before .before .before .before .before .before .before .compared .ensures) (c .before .before .before .before .before .before .if1 .left) (number-further (c .before .before .before .before .before .count-of .ensures .0) (c .before .before .before .before .compared2 .ensures) (c .before .before .before .if2 .left)
+    (ordered-decided _ _ _ _ refl (edge-at-equal (now (c .before .before .before .before .before .before .before .before .before .before .before .args .children)) (now (c .before .before .before .before .before .before .before .before .before .before .before .args .cuts)) (c .before .before .first-of .ensures .0) (c .before .edge-compared .ensures)) (c .if3 .taken)))
 
--- src/chain.rt:108:35
-add-edge-compared : tie.Need-add-edge-compared
-add-edge-compared c = search needs
-
--- src/chain.rt:108:5
 edge-compared-requires-2 : tie.Need-edge-compared-requires-2
-edge-compared-requires-2 c κs = search needs
+edge-compared-requires-2 c κs = (omega (arith, (c .before .before .first-of .ensures .0), (c .before .before .before .before .before .before .before .before .before .before .before .pre .2 .inside), (c .before .before .before .before .before .before .before .before .before .before .before .pre .2 .many)), (c .before .before .before .before .before .before .before .before .before .before .before .pre .1))
 
--- src/chain.rt:84:1
 returns-4 : tie.Need-returns-4
-returns-4 c = ?
+returns-4 c = number-further (c .before .before .before .before .before .before .before .before .before .var-of .ensures .0) (c .before .before .before .before .before .before .before .before .compared .ensures) (c .before .before .before .before .before .before .before .if1 .left) (number-further (c .before .before .before .before .before .before .count-of .ensures .0) (c .before .before .before .before .before .compared2 .ensures) (c .before .before .before .before .if2 .left)
+    (ordered-further _ _ (edge-at-equal (now (c .before .before .before .before .before .before .before .before .before .before .before .before .args .children)) (now (c .before .before .before .before .before .before .before .before .before .before .before .before .args .cuts)) (c .before .before .before .first-of .ensures .0) (c .before .before .edge-compared .ensures) .same (c .before .if3 .left)) (edge-at-equal (now (c .before .before .before .before .before .before .before .before .before .before .before .before .args .children)) (now (c .before .before .before .before .before .before .before .before .before .before .before .before .args .cuts)) (ap (λ (i : ℕ). i + 1) (c .before .before .before .first-of .ensures .0)) (c .edge-compared2 .ensures))))
 
 pub front-compared-spec : {M : Type 1} → statement M
 front-compared-spec =
     tie.close
     (tie.spec
-    var-of-requires
-    compared-requires
+    (λ c κs. search needs)
+    (λ c κs. search needs)
     returns
-    count-of-requires
-    compared-requires-2
+    (λ c κs. search needs)
+    (λ c κs. search needs)
     returns-2
-    first-of-requires
+    (λ c κs. search needs)
     edge-compared-requires
     returns-3
-    add-edge-compared
+    (λ c. search needs)
     edge-compared-requires-2
     returns-4)

@@ -1,48 +1,21 @@
+-- `chain::front_of` meets its contract. Assumes nothing.
+use mathlib.Core.Path.{refl, _∙_}
 use borrow.Author.Needs.{needs}
+use Rattle.making.proofs.Fronts.{front-is}
 use Rattle.making.proofs.chain.front_of.Statement.{statement}
 use Rattle.making.proofs.chain.front_of.Tie as tie
-use Rattle.making.proofs.chain.front_of.Reads as reads
-use Rattle.making.proofs.chain.front_of.Lts as lts
-use Rattle.ids.proofs.NodeId.negate.Reads as negate-reads
-use Rattle.making.proofs.edges.key_of.Reads as key-of-reads
-use Rattle.table.proofs.words.wide.Reads as wide-reads
 
--- src/chain.rt:145:9
-negate-requires : tie.Need-negate-requires
-negate-requires c κs = search needs
-
--- src/chain.rt:146:9
-negate-requires-2 : tie.Need-negate-requires-2
-negate-requires-2 c κs = search needs
-
--- src/chain.rt:150:17
-wide-requires : tie.Need-wide-requires
-wide-requires c κs = search needs
-
--- src/chain.rt:151:15
-key-of-requires : tie.Need-key-of-requires
-key-of-requires c κs = search needs
-
--- src/chain.rt:152:17
-wide-requires-2 : tie.Need-wide-requires-2
-wide-requires-2 c κs = search needs
-
--- src/chain.rt:153:15
-key-of-requires-2 : tie.Need-key-of-requires-2
-key-of-requires-2 c κs = search needs
-
--- src/chain.rt:142:1
 returns : tie.Need-returns
-returns c = ?
+returns c = front-is refl refl ((c .before .before .before .wide .ensures .0) ∙ (c .before .before .before .before .before .negate .ensures)) (c .before .before .key-of .ensures) ((c .before .wide2 .ensures .0) ∙ (c .before .before .before .before .negate2 .ensures)) (c .key-of2 .ensures)
 
 pub front-of-spec : {M : Type 1} → statement M
 front-of-spec =
     tie.close
     (tie.spec
-    negate-requires
-    negate-requires-2
-    wide-requires
-    key-of-requires
-    wide-requires-2
-    key-of-requires-2
+    (λ c κs. search needs)
+    (λ c κs. search needs)
+    (λ c κs. search needs)
+    (λ c κs. search needs)
+    (λ c κs. search needs)
+    (λ c κs. search needs)
     returns)

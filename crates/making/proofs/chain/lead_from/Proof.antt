@@ -1,24 +1,15 @@
+-- `chain::lead_from` meets its contract. Assumes nothing.
+use native.Mathlib.Omega.{arith}
 use borrow.Author.Needs.{needs}
+use Rattle.making.proofs.Walked.{from-some, from-none}
 use Rattle.making.proofs.chain.lead_from.Statement.{statement}
 use Rattle.making.proofs.chain.lead_from.Tie as tie
-use Rattle.making.proofs.chain.lead_from.Reads as reads
-use Rattle.making.proofs.chain.lead_from.Lts as lts
 
--- src/chain.rt:163:25
-sub-result : tie.Need-sub-result
-sub-result c = search needs
-
--- src/chain.rt:163:16
-add-result : tie.Need-add-result
-add-result c = search needs
-
--- src/chain.rt:163:9
 returns : tie.Need-returns
-returns c = ?
+returns c = (from-some (c .before .args .rooms) (c .before .args .bucket) (c .before .args .p) (omega arith), omega arith)
 
--- src/chain.rt:158:1
 returns-2 : tie.Need-returns-2
-returns-2 c = ?
+returns-2 c = (from-none (c .before .args .rooms) (c .before .args .bucket) (c .before .args .p) (omega arith), omega arith)
 
 pub lead-from-spec : {M : Type 1} → statement M
-lead-from-spec = tie.close (tie.spec sub-result add-result returns returns-2)
+lead-from-spec = tie.close (tie.spec (λ c. search needs) (λ c. search needs) returns returns-2)

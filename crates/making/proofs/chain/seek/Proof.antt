@@ -1,93 +1,75 @@
+-- `chain::seek` meets its contract: the walk of crate `chains` (proofs/Found). Assumes nothing.
+use mathlib.Core.Path.{_≡_, refl, sym, _∙_, ap}
+use mathlib.Core.Logic.{⊎-elim}
+use mathlib.Core.List.{List}
+use Prim.Native.Nat.{ℕ, _-_, _<_}
+use native.Mathlib.Omega.{arith}
+use lib.ListN.{getD}
+use borrow.Author.Needs.{needs}
+use denote.Ref.{now}
+use Rattle.chains.specs.Row.{from}
+use Rattle.table.specs.Layout.{room, store}
+use Rattle.making.specs.Seeking.{far}
+use Rattle.making.proofs.Walked.{Going, going-from, going-starts, going-within, going-on, going-falls, seeks-node, seeks-stop, seeks-end, hash-low, hash-high, front-low, front-high, front-same, not-same, not-equal}
 use Rattle.making.proofs.chain.seek.Statement.{statement}
 use Rattle.making.proofs.chain.seek.Tie as tie
-use Rattle.making.proofs.chain.seek.Reads as reads
-use Rattle.making.proofs.chain.seek.Lts as lts
-use Rattle.making.proofs.chain.front_compared.Reads as front-compared-reads
-use Rattle.making.proofs.chain.lead_from.Reads as lead-from-reads
-use Rattle.table.proofs.index.scaled.Reads as scaled-reads
-use Rattle.table.proofs.words.word.Reads as word-reads
 
 abbrev Inv-loop : tie.InvT-loop
-Inv-loop nodes children cuts index h f from rooms before₀ at₀ before at = ?
+Inv-loop nodes children cuts index h f from rooms before₀ at₀ before at = Going (store nodes children cuts) index h f from before at
 
 abbrev μ-loop : tie.MeasureT-loop
-μ-loop nodes children cuts index h f from rooms before₀ at₀ before at = ?
+μ-loop nodes children cuts index h f from rooms before₀ at₀ before at = far (store nodes children cuts) at
 
--- src/chain.rt:184:47
 scaled-requires : tie.Need-scaled-requires Inv-loop μ-loop
-scaled-requires c κs = ?
+scaled-requires c κs = ((c .before .before .before .pre .1), (c .before .before .before .pre .0 .some-nodes), (c .before .before .before .pre .0 .most-nodes))
 
--- src/chain.rt:184:30
 lead-from-requires : tie.Need-lead-from-requires Inv-loop μ-loop
-lead-from-requires c κs = ?
+lead-from-requires c κs = ((c .before .before .before .before .pre .0 .most-nodes), (c .scaled .ensures .1), going-from (store (now (c .before .before .before .before .args .nodes)) (now (c .before .before .before .before .args .children)) (now (c .before .before .before .before .args .cuts))) (now (c .before .before .before .before .args .index)) (c .before .before .before .before .args .h) (c .before .before .before .before .args .f) (c .before .before .before .before .args .from) (c .before .before .before .before .pre .0 .some-nodes) (c .before .before .before .before .pre .1) (c .before .before .before .before .pre .2))
 
--- src/chain.rt:184:9
 word-requires : tie.Need-word-requires Inv-loop μ-loop
-word-requires c κs = ?
+word-requires c κs = omega (arith, (c .lead-from .ensures .1), (c .before .before .before .before .before .pre .0 .indexed))
 
--- src/chain.rt:185:5
 loop-holds : tie.Need-loop-holds Inv-loop μ-loop
-loop-holds c = ?
+loop-holds c = going-starts (store (now (c .before .before .before .before .before .before .args .nodes)) (now (c .before .before .before .before .before .before .args .children)) (now (c .before .before .before .before .before .before .args .cuts))) (now (c .before .before .before .before .before .before .args .index)) (c .before .before .before .before .before .before .args .h) (c .before .before .before .before .before .before .args .f) (c .before .before .before .before .before .before .args .from) (c .before .before .before .before .before .before .pre .0 .some-nodes) (c .before .before .before .before .before .before .pre .1) (c .before .before .before .before .before .before .pre .2) ((c .word .ensures .0) ∙ ap (λ (i : ℕ). getD (now (c .before .before .before .before .before .before .args .index)) i 0) ((c .before .lead-from .ensures .0) ∙ ap (λ (b : ℕ). from (room (now (c .before .before .before .before .before .before .args .nodes))) b (c .before .before .before .before .before .before .args .from)) (c .before .before .scaled .ensures .0)))
 
--- src/chain.rt:187:29
 mul-word : tie.Need-mul-word Inv-loop μ-loop
-mul-word c = ?
+mul-word c = omega (arith, (c .before .before .before .before .before .before .before .before .pre .0 .most-nodes))
 
--- src/chain.rt:187:42
-sub-word : tie.Need-sub-word Inv-loop μ-loop
-sub-word c = ?
-
--- src/chain.rt:187:29
 add-word : tie.Need-add-word Inv-loop μ-loop
-add-word c = ?
+add-word c = let w = going-within (store (now (c .before .before .before .before .before .before .before .before .args .nodes)) (now (c .before .before .before .before .before .before .before .before .args .children)) (now (c .before .before .before .before .before .before .before .before .args .cuts))) (now (c .before .before .before .before .before .before .before .before .args .index)) (c .before .before .before .before .before .before .before .before .args .h) (c .before .before .before .before .before .before .before .before .args .f) (c .before .before .before .before .before .before .before .before .args .from) (c .before .before .before .before .before .before .before .before .pre .0 .some-nodes) (c .before .before .before .before .before .before .before .before .pre .1) (c .before .before .before .before .before .before .before .before .pre .2) (c .before .loop .inv) (c .loop-test .taken) in omega (arith, (c .before .before .before .before .before .before .before .before .pre .0 .most-nodes), (c .before .before .before .before .before .before .before .before .pre .2 .sound .records .fits))
 
--- src/chain.rt:187:13
 word-requires-2 : tie.Need-word-requires-2 Inv-loop μ-loop
-word-requires-2 c κs = ?
+word-requires-2 c κs = let w = going-within (store (now (c .before .before .before .before .before .before .before .before .args .nodes)) (now (c .before .before .before .before .before .before .before .before .args .children)) (now (c .before .before .before .before .before .before .before .before .args .cuts))) (now (c .before .before .before .before .before .before .before .before .args .index)) (c .before .before .before .before .before .before .before .before .args .h) (c .before .before .before .before .before .before .before .before .args .f) (c .before .before .before .before .before .before .before .before .args .from) (c .before .before .before .before .before .before .before .before .pre .0 .some-nodes) (c .before .before .before .before .before .before .before .before .pre .1) (c .before .before .before .before .before .before .before .before .pre .2) (c .before .loop .inv) (c .loop-test .taken) in omega (arith, (c .loop-test .taken), (c .before .before .before .before .before .before .before .before .pre .0 .indexed), (c .before .before .before .before .before .before .before .before .pre .2 .sound .records .fits))
 
--- src/chain.rt:189:13
 returns : tie.Need-returns Inv-loop μ-loop
-returns c = ?
+returns c = seeks-stop (store (now (c .before .before .before .before .before .before .before .before .before .before .args .nodes)) (now (c .before .before .before .before .before .before .before .before .before .before .args .children)) (now (c .before .before .before .before .before .before .before .before .before .before .args .cuts))) (now (c .before .before .before .before .before .before .before .before .before .before .args .index)) (c .before .before .before .before .before .before .before .before .before .before .args .h) (c .before .before .before .before .before .before .before .before .before .before .args .f) (c .before .before .before .before .before .before .before .before .before .before .args .from) (c .before .before .before .before .before .before .before .before .before .before .pre .0 .some-nodes) (c .before .before .before .before .before .before .before .before .before .before .pre .1) (c .before .before .before .before .before .before .before .before .before .before .pre .2) (c .before .before .before .loop .inv) (c .before .before .loop-test .taken) (λ u z l rest. hash-high z l (c .before .word2 .ensures .0) (c .before .before .before .before .before .before .before .before .before .before .args .h) (c .before .before .before .before .before .before .before .before .before .before .args .f) rest (c .if1 .taken))
 
--- src/chain.rt:196:66
-sub-front-compared : tie.Need-sub-front-compared Inv-loop μ-loop
-sub-front-compared c = ?
-
--- src/chain.rt:196:17
 front-compared-requires : tie.Need-front-compared-requires Inv-loop μ-loop
-front-compared-requires c κs = ?
+front-compared-requires c κs = let w = going-within (store (now (c .before .before .before .before .before .before .before .before .before .before .before .args .nodes)) (now (c .before .before .before .before .before .before .before .before .before .before .before .args .children)) (now (c .before .before .before .before .before .before .before .before .before .before .before .args .cuts))) (now (c .before .before .before .before .before .before .before .before .before .before .before .args .index)) (c .before .before .before .before .before .before .before .before .before .before .before .args .h) (c .before .before .before .before .before .before .before .before .before .before .before .args .f) (c .before .before .before .before .before .before .before .before .before .before .before .args .from) (c .before .before .before .before .before .before .before .before .before .before .before .pre .0 .some-nodes) (c .before .before .before .before .before .before .before .before .before .before .before .pre .1) (c .before .before .before .before .before .before .before .before .before .before .before .pre .2) (c .before .before .before .before .loop .inv) (c .before .before .before .loop-test .taken) in (omega (arith, (c .before .before .before .loop-test .taken), (c .before .before .before .before .before .before .before .before .before .before .before .pre .0 .whole), (c .before .before .before .before .before .before .before .before .before .before .before .pre .2 .sound .records .fits)), (c .before .before .before .before .before .before .before .before .before .before .before .pre .0 .cut-each), (c .before .before .before .before .before .before .before .before .before .before .before .pre .2 .sound .records .rules) ((c .before .before .before .before .loop .at) - 1) (omega (arith, (c .before .before .before .loop-test .taken))))
 
--- src/chain.rt:198:17
 returns-2 : tie.Need-returns-2 Inv-loop μ-loop
-returns-2 c = ?
+returns-2 c = let w = going-within (store (now (c .before .before .before .before .before .before .before .before .before .before .before .before .before .args .nodes)) (now (c .before .before .before .before .before .before .before .before .before .before .before .before .before .args .children)) (now (c .before .before .before .before .before .before .before .before .before .before .before .before .before .args .cuts))) (now (c .before .before .before .before .before .before .before .before .before .before .before .before .before .args .index)) (c .before .before .before .before .before .before .before .before .before .before .before .before .before .args .h) (c .before .before .before .before .before .before .before .before .before .before .before .before .before .args .f) (c .before .before .before .before .before .before .before .before .before .before .before .before .before .args .from) (c .before .before .before .before .before .before .before .before .before .before .before .before .before .pre .0 .some-nodes) (c .before .before .before .before .before .before .before .before .before .before .before .before .before .pre .1) (c .before .before .before .before .before .before .before .before .before .before .before .before .before .pre .2) (c .before .before .before .before .before .before .loop .inv) (c .before .before .before .before .before .loop-test .taken) in seeks-node (store (now (c .before .before .before .before .before .before .before .before .before .before .before .before .before .args .nodes)) (now (c .before .before .before .before .before .before .before .before .before .before .before .before .before .args .children)) (now (c .before .before .before .before .before .before .before .before .before .before .before .before .before .args .cuts))) (now (c .before .before .before .before .before .before .before .before .before .before .before .before .before .args .index)) (c .before .before .before .before .before .before .before .before .before .before .before .before .before .args .h) (c .before .before .before .before .before .before .before .before .before .before .before .before .before .args .f) (c .before .before .before .before .before .before .before .before .before .before .before .before .before .args .from) (c .before .before .before .before .before .before .before .before .before .before .before .before .before .pre .0 .some-nodes) (c .before .before .before .before .before .before .before .before .before .before .before .before .before .pre .1) (c .before .before .before .before .before .before .before .before .before .before .before .before .before .pre .2) (c .before .before .before .before .before .before .loop .inv) (c .before .before .before .before .before .loop-test .taken) (front-same (c .before .before .before .before .before .before .before .before .before .before .before .before .before .pre .2 .sound) (omega (arith, (c .before .before .before .before .before .loop-test .taken))) (c .before .before .before .before .word2 .ensures .0) (c .before .before .before .before .before .before .before .before .before .before .before .before .before .args .h) (c .before .before .before .before .before .before .before .before .before .before .before .before .before .args .f) (c .before .before .if2 .taken) (c .before .front-compared .ensures) (c .if3 .taken))
 
--- src/chain.rt:205:17
 returns-3 : tie.Need-returns-3 Inv-loop μ-loop
-returns-3 c = ?
+returns-3 c = seeks-stop (store (now (c .before .before .before .before .before .before .before .before .before .before .before .before .before .before .args .nodes)) (now (c .before .before .before .before .before .before .before .before .before .before .before .before .before .before .args .children)) (now (c .before .before .before .before .before .before .before .before .before .before .before .before .before .before .args .cuts))) (now (c .before .before .before .before .before .before .before .before .before .before .before .before .before .before .args .index)) (c .before .before .before .before .before .before .before .before .before .before .before .before .before .before .args .h) (c .before .before .before .before .before .before .before .before .before .before .before .before .before .before .args .f) (c .before .before .before .before .before .before .before .before .before .before .before .before .before .before .args .from) (c .before .before .before .before .before .before .before .before .before .before .before .before .before .before .pre .0 .some-nodes) (c .before .before .before .before .before .before .before .before .before .before .before .before .before .before .pre .1) (c .before .before .before .before .before .before .before .before .before .before .before .before .before .before .pre .2) (c .before .before .before .before .before .before .before .loop .inv) (c .before .before .before .before .before .before .loop-test .taken) (λ u z l rest. front-high z l (c .before .before .before .before .before .word2 .ensures .0) (c .before .before .before .before .before .before .before .before .before .before .before .before .before .before .args .h) (c .before .before .before .before .before .before .before .before .before .before .before .before .before .before .args .f) (c .before .before .before .if2 .taken) (c .before .before .front-compared .ensures) rest (c .if4 .taken))
 
--- src/chain.rt:213:35
-sub-word-2 : tie.Need-sub-word-2 Inv-loop μ-loop
-sub-word-2 c = ?
-
--- src/chain.rt:213:26
 add-word-2 : tie.Need-add-word-2 Inv-loop μ-loop
-add-word-2 c = ?
+add-word-2 c = let w = going-within (store (now (c .before .before .before .before .before .before .before .before .before .before .before .args .nodes)) (now (c .before .before .before .before .before .before .before .before .before .before .before .args .children)) (now (c .before .before .before .before .before .before .before .before .before .before .before .args .cuts))) (now (c .before .before .before .before .before .before .before .before .before .before .before .args .index)) (c .before .before .before .before .before .before .before .before .before .before .before .args .h) (c .before .before .before .before .before .before .before .before .before .before .before .args .f) (c .before .before .before .before .before .before .before .before .before .before .before .args .from) (c .before .before .before .before .before .before .before .before .before .before .before .pre .0 .some-nodes) (c .before .before .before .before .before .before .before .before .before .before .before .pre .1) (c .before .before .before .before .before .before .before .before .before .before .before .pre .2) (c .before .before .before .before .loop .inv) (c .before .before .before .loop-test .taken) in omega (arith, (c .before .before .before .before .before .before .before .before .before .before .before .pre .0 .most-nodes), (c .before .before .before .before .before .before .before .before .before .before .before .pre .2 .sound .records .fits))
 
--- src/chain.rt:213:9
 word-requires-3 : tie.Need-word-requires-3 Inv-loop μ-loop
-word-requires-3 c κs = ?
+word-requires-3 c κs = let w = going-within (store (now (c .before .before .before .before .before .before .before .before .before .before .before .args .nodes)) (now (c .before .before .before .before .before .before .before .before .before .before .before .args .children)) (now (c .before .before .before .before .before .before .before .before .before .before .before .args .cuts))) (now (c .before .before .before .before .before .before .before .before .before .before .before .args .index)) (c .before .before .before .before .before .before .before .before .before .before .before .args .h) (c .before .before .before .before .before .before .before .before .before .before .before .args .f) (c .before .before .before .before .before .before .before .before .before .before .before .args .from) (c .before .before .before .before .before .before .before .before .before .before .before .pre .0 .some-nodes) (c .before .before .before .before .before .before .before .before .before .before .before .pre .1) (c .before .before .before .before .before .before .before .before .before .before .before .pre .2) (c .before .before .before .before .loop .inv) (c .before .before .before .loop-test .taken) in omega (arith, (c .before .before .before .loop-test .taken), (c .before .before .before .before .before .before .before .before .before .before .before .pre .0 .indexed), (c .before .before .before .before .before .before .before .before .before .before .before .pre .2 .sound .records .fits))
 
--- src/chain.rt:185:5
 loop-less : tie.Need-loop-less Inv-loop μ-loop
-loop-less c = ?
+loop-less c = going-falls (store (now (c .before .before .before .before .before .before .before .before .before .before .before .before .args .nodes)) (now (c .before .before .before .before .before .before .before .before .before .before .before .before .args .children)) (now (c .before .before .before .before .before .before .before .before .before .before .before .before .args .cuts))) (now (c .before .before .before .before .before .before .before .before .before .before .before .before .args .index)) (c .before .before .before .before .before .before .before .before .before .before .before .before .args .h) (c .before .before .before .before .before .before .before .before .before .before .before .before .args .f) (c .before .before .before .before .before .before .before .before .before .before .before .before .args .from) (c .before .before .before .before .before .before .before .before .before .before .before .before .pre .0 .some-nodes) (c .before .before .before .before .before .before .before .before .before .before .before .before .pre .1) (c .before .before .before .before .before .before .before .before .before .before .before .before .pre .2) (c .before .before .before .before .before .loop .inv) (c .before .before .before .before .loop-test .taken) (c .word3 .ensures .0)
 
--- src/chain.rt:185:5
 loop-again : tie.Need-loop-again Inv-loop μ-loop
-loop-again c = ?
+loop-again c = going-on (store (now (c .before .before .before .before .before .before .before .before .before .before .before .before .args .nodes)) (now (c .before .before .before .before .before .before .before .before .before .before .before .before .args .children)) (now (c .before .before .before .before .before .before .before .before .before .before .before .before .args .cuts))) (now (c .before .before .before .before .before .before .before .before .before .before .before .before .args .index)) (c .before .before .before .before .before .before .before .before .before .before .before .before .args .h) (c .before .before .before .before .before .before .before .before .before .before .before .before .args .f) (c .before .before .before .before .before .before .before .before .before .before .before .before .args .from) (c .before .before .before .before .before .before .before .before .before .before .before .before .pre .0 .some-nodes) (c .before .before .before .before .before .before .before .before .before .before .before .before .pre .1) (c .before .before .before .before .before .before .before .before .before .before .before .before .pre .2) (c .before .before .before .before .before .loop .inv) (c .before .before .before .before .loop-test .taken) (c .word3 .ensures .0) (λ u z l rest. ⊎-elim
+    (λ w. front-low z l (c .before .before .before .word2 .ensures .0) (c .before .before .before .before .before .before .before .before .before .before .before .before .args .h) (c .before .before .before .before .before .before .before .before .before .before .before .before .args .f) (w .0 .taken) (w .1 .ensures) rest (not-same (w .2 .left) (w .3 .left)))
+    (λ w. hash-low z l (c .before .before .before .word2 .ensures .0) (c .before .before .before .before .before .before .before .before .before .before .before .before .args .h) (c .before .before .before .before .before .before .before .before .before .before .before .before .args .f) rest (not-equal (c .before .before .if1 .left) (w .left)))
+    (c .before .if2 .came))
 
--- src/chain.rt:170:1
 returns-4 : tie.Need-returns-4 Inv-loop μ-loop
-returns-4 c = ?
+returns-4 c = seeks-end (store (now (c .before .before .before .before .before .before .before .before .args .nodes)) (now (c .before .before .before .before .before .before .before .before .args .children)) (now (c .before .before .before .before .before .before .before .before .args .cuts))) (now (c .before .before .before .before .before .before .before .before .args .index)) (c .before .before .before .before .before .before .before .before .args .h) (c .before .before .before .before .before .before .before .before .args .f) (c .before .before .before .before .before .before .before .before .args .from) (c .before .before .before .before .before .before .before .before .pre .0 .some-nodes) (c .before .before .before .before .before .before .before .before .pre .1) (c .before .before .before .before .before .before .before .before .pre .2) (c .before .loop .inv) (omega arith)
 
 pub seek-spec : {M : Type 1} → statement M
 seek-spec =
@@ -100,15 +82,15 @@ seek-spec =
     word-requires
     loop-holds
     mul-word
-    sub-word
+    (λ c. search needs)
     add-word
     word-requires-2
     returns
-    sub-front-compared
+    (λ c. search needs)
     front-compared-requires
     returns-2
     returns-3
-    sub-word-2
+    (λ c. search needs)
     add-word-2
     word-requires-3
     loop-less
