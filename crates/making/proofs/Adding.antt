@@ -118,14 +118,14 @@ module _ {h : Used} {st : Store} {index : List ℕ} (l : Lent h st index) {v lea
         let x = sym (node-agrees agree (l .sound .records .rules) (omega (arith, l .edges)) m k) ∙ matches-node many (b .reduced) (same-matches r matches) in
         omega (arith, none, finds .at-is, found-record st u (nodeOf v s es) index m (l .sound) k x)
 
-    pub added : Added h (nodeOf v s es) (record { nodes = u + 1; edges = e + es .len }) st st′ index′
-    added =
-        let a : suc u ≡ u + 1 = omega arith in
+    pub added : {h′ : Used} → h′ .nodes ≡ h .nodes + 1 → h′ .edges ≡ h .edges + es .len → Added h (nodeOf v (sign lead) es) h′ st st′ index′
+    added {h′} m n =
+        let a : suc u ≡ h′ .nodes = omega arith in
         record {
           lent = record {
             allowed = allowed-same (l .allowed) (q .long) (p .wide) (p .deep) (i .broad);
             sound = subst (SoundLent st′ index′) a (sound-grown (l .sound) (l .edges) words (omega arith) rules alone indexed);
-            edges = sym (ap (start (st′ .nodes)) (sym a) ∙ (start-grown (l .sound) (l .edges) words ∙ ap (λ (i : ℕ). e + i) (q .counts)));
+            edges = n ∙ sym (ap (start (st′ .nodes)) (sym a) ∙ (start-grown (l .sound) (l .edges) words ∙ ap (λ (x : ℕ). e + x) (q .counts)));
           };
           stays = record {
             long = q .long;

@@ -1,20 +1,22 @@
 -- What a node is ordered by, compared as the code does: number by number, and in parts. Assumes nothing.
 use mathlib.Core.Path.{_≡_, refl, sym, _∙_, ap, subst}
-use mathlib.Core.Bool.{true}
+use mathlib.Core.Bool.{true, cond, _&&_}
 use mathlib.Core.List.{List, [], _∷_, _++_}
 use Prim.Native.Nat.{ℕ, zero, suc, _+_, _-_, _≤_, _<_}
 use native.Mathlib.Omega.{arith}
 use native.Mathlib.Numerals.{add-one}
 use lib.ListN.{length}
 use lib.IntN.{ℤ}
+use lib.Dec.{ltb}
 use Rattle.ids.specs.Id.{under}
+use Rattle.diagram.specs.Table.{isRange}
 use Rattle.chains.specs.Lexical.{less, run}
 use Rattle.chains.proofs.Lexical.{less-smaller, less-append, less-skip}
 use Rattle.table.specs.Layout.{varAt, countAt, firstAt, kidAt, cutAt, cutPosition, Store}
 use Rattle.table.specs.Indexed.{hashAt, keyAt}
 use Rattle.making.specs.declared.chain.Front.{Front}
 use Rattle.making.specs.declared.edges.Edges as built
-use Rattle.making.specs.Building.{childIn, keyIn, hashIn, contentOf}
+use Rattle.making.specs.Building.{childIn, cutIn, keyIn, zeroCut, hashIn, contentOf}
 use Rattle.making.specs.Seeking.{Ordered, edgeAt, frontAt, restAt, frontIn, frontOf, restIn, fronted}
 
 -- Two numbers.
@@ -95,6 +97,10 @@ module _ (st : Store) (n v s : ℕ) (es : built.Edges) where
 -- A front, number by number.
 pub front-is : {f : Front} {v count a b c d : ℕ} → f .variable ≡ v → f .count ≡ count → f .child0 ≡ a → f .cut0 ≡ b → f .child1 ≡ c → f .cut1 ≡ d → frontOf f ≡ v ∷ (count ∷ (a ∷ (b ∷ (c ∷ (d ∷ [])))))
 front-is g h p q r s = λ i. g i ∷ (h i ∷ (p i ∷ (q i ∷ (r i ∷ (s i ∷ [])))))
+
+pub front-in : (v s : ℕ) (es : built.Edges) {f : Front} → frontOf f ≡ (v ∷ (es .len ∷ (under s (childIn es 0) ∷ (cond (isRange v && ltb (0 + 1) (es .len)) (cutIn es 0) zeroCut ∷ (under s (childIn es 1) ∷ (cond (isRange v && ltb (1 + 1) (es .len)) (cutIn es 1) zeroCut ∷ [])))))) → frontOf f ≡ frontIn v s es
+unfolding keyIn
+front-in v s es e = e
 
 -- A stored node by its front and its other edges,
 pub key-front : (st : Store) (n : ℕ) → 2 ≤ countAt (st .nodes) n → keyAt st n ≡ hashAt st n ∷ (frontAt st n ++ restAt st n (countAt (st .nodes) n))

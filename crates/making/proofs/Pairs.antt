@@ -2,7 +2,8 @@
 use mathlib.Core.Path.{_≡_, refl, sym, _∙_, ap, ap₂, subst}
 use mathlib.Core.Bool.{cond, _&&_}
 use mathlib.Core.List.{List, [], _∷_}
-use Prim.Native.Nat.{ℕ, suc, _+_, _≤_, _<_}
+use mathlib.Core.Logic.{⊎-elim}
+use Prim.Native.Nat.{ℕ, suc, _+_, _-_, _≤_, _<_}
 use native.Mathlib.Omega.{arith}
 use lib.ListN.{length, getD, set, replicate, length-set, length-replicate}
 use lib.Seq.{getD-set-same, getD-set-other}
@@ -18,15 +19,20 @@ use Rattle.diagram.specs.Sound.{Child}
 use Rattle.algebra.specs.Making.{settle}
 use Rattle.algebra.specs.Overlay.{merge}
 use Rattle.algebra.proofs.Overlays.{join-same, join-other, reduced-merge, each-merge}
+use Rattle.table.specs.Layout.{room, Store}
 use Rattle.table.specs.Indexed.{mix}
-use Rattle.table.proofs.Laws.{mix-at-equal}
+use Rattle.table.specs.Lent.{SoundLent}
+use Rattle.table.proofs.Laws.{lt-or-le, mix-at-equal}
 use Rattle.making.specs.declared.edges.Edge.{Edge}
-use Rattle.making.specs.Building.{Building, none, childIn, cutIn, keyIn, piecesOf, zeroCut, hashIn, pairOf}
+use Rattle.making.specs.Building.{Building, none, childIn, cutIn, keyIn, piecesOf, zeroCut, hashIn, pairList, pairOf}
 use Rattle.making.specs.declared.chain.Front.{Front}
-use Rattle.making.specs.Seeking.{frontIn, frontOf}
+use Rattle.making.specs.declared.chain.Spot.{Spot}
+use Rattle.making.specs.Seeking.{restAt, frontIn, restIn, frontOf, Sought, Seeks, Finds}
 use Rattle.making.specs.Storing.{EdgesWritten, EdgesPut}
 use Rattle.making.specs.Outcome.{Buildable, create-pair}
 use Rattle.making.proofs.Hashing.{key-bool, hash-none, hash-next}
+use Rattle.making.proofs.Fronts.{run-ends}
+use Rattle.making.proofs.Finding.{find-none, find-same}
 use Rattle.making.proofs.Stores.{written-none, written-next}
 use Rattle.making.proofs.Stored.{bool-none}
 
@@ -41,16 +47,12 @@ module _ (high low : NodeId) where
   sized = length-replicate mostEdges none
 
   slot-high : getD (pairOf high low .list) 0 none ≡ record { cut = 1; child = high; spare = 0 }
-  unfolding pairOf
+  unfolding pairList
   slot-high = getD-set-other one 1 0 (record { cut = 0; child = low; spare = 0 }) none (λ q. omega arith) ∙ getD-set-same blank 0 (record { cut = 1; child = high; spare = 0 }) none (omega (arith, sized))
 
   slot-low : getD (pairOf high low .list) 1 none ≡ record { cut = 0; child = low; spare = 0 }
-  unfolding pairOf
+  unfolding pairList
   slot-low = getD-set-same one 1 (record { cut = 0; child = low; spare = 0 }) none (simp length-set (omega (arith, sized)))
-
-  pub pair-len : pairOf high low .len ≡ 2
-  unfolding pairOf
-  pair-len = refl
 
   pub pair-high : childIn (pairOf high low) 0 ≡ high .0
   pair-high = ap (λ (x : Edge). x .child .0) slot-high
@@ -62,11 +64,11 @@ module _ (high low : NodeId) where
   pair-cut = ap (λ (x : Edge). x .cut) slot-high
 
   pub pair-building : Building (pairOf high low)
-  unfolding pairOf
+  unfolding pairList
   pair-building = record { size = simp length-set sized; some = omega arith; most = omega arith }
 
   pair-pieces : piecesOf (pairOf high low) ≡ cut (high .0) 1 (last (low .0))
-  unfolding run pairOf
+  unfolding run
   pair-pieces = ap₂ (λ (x y : Edge). cut (x .child .0) (x .cut) (last (y .child .0))) slot-high slot-low
 
   -- merged, where they differ
@@ -97,11 +99,8 @@ module _ (high low : NodeId) where
 
   -- its front,
   pub pair-front : (v : ℕ) {f : Front} → frontOf f ≡ (v ∷ (2 ∷ (under (sign (high .0)) (high .0) ∷ (cond (isRange v && ltb (0 + 1) 2) 1 zeroCut ∷ (under (sign (high .0)) (low .0) ∷ (cond (isRange v && ltb (1 + 1) 2) 0 zeroCut ∷ [])))))) → firstBoolean ≤ v → frontOf f ≡ frontIn v (sign (high .0)) (pairOf high low)
-  pair-front v e g = e ∙ (λ i. v ∷ (n i ∷ (a i ∷ (b i ∷ (c i ∷ (d i ∷ []))))))
+  pair-front v e g = e ∙ (λ i. v ∷ (2 ∷ (a i ∷ (b i ∷ (c i ∷ (d i ∷ []))))))
     where
-      n : 2 ≡ pairOf high low .len
-      n = sym pair-len
-
       a : under (sign (high .0)) (high .0) ≡ under (sign (high .0)) (childIn (pairOf high low) 0)
       a = ap (under (sign (high .0))) (sym pair-high)
 
@@ -124,7 +123,6 @@ module _ (high low : NodeId) where
           (written-next (written-none children cuts e _ _) (omega arith) (omega arith) x z (a ∙ ap (under (sign (high .0))) (sym pair-high)) c)
 
   pub pair-put : {children : List ℕ} {cuts : List ℤ} {e : ℕ} {children′ : List ℕ} {cuts′ : List ℤ} (v : ℕ) → firstBoolean ≤ v → EdgesWritten children cuts e 2 (λ j. under (sign (high .0)) (childIn (pairOf high low) j)) (λ j. pos 0) children′ cuts′ → EdgesPut children cuts e v (sign (high .0)) (pairOf high low) children′ cuts′
-  unfolding pairOf
   pair-put v g w = record {
     wide = w .wide;
     deep = w .deep;
@@ -133,3 +131,17 @@ module _ (high low : NodeId) where
     child-is = w .child-is;
     cut-is = λ j l. w .cut-is j l ∙ sym (bool-none v j 2 (cutIn (pairOf high low) j) g);
   }
+
+-- A search for a boolean node finds it or its place: no other edges are left to compare.
+pub pair-finds : {st : Store} {index : List ℕ} {u h : ℕ} (v : ℕ) (high low : NodeId) {f : Front} {r : Spot} → SoundLent st index u → 1 ≤ room (st .nodes) → Reduced 0 (topOf v) (piecesOf (pairOf high low)) → h ≡ hashIn v (sign (high .0)) (pairOf high low) 2 → frontOf f ≡ frontIn v (sign (high .0)) (pairOf high low)
+    → Seeks st index h f 0 r → Finds st u v (sign (high .0)) (pairOf high low) r
+pair-finds {st} {index} {u} {h} v high low {f} {r} z some red hashed front w = ⊎-elim (λ l. find-same z some v s (pairOf high low) (omega arith) red hashed front found l none-left) (λ g. find-none z some v s (pairOf high low) (omega arith) red hashed front found (omega arith)) (lt-or-le 0 (r .at))
+  where
+    s : ℕ
+    s = sign (high .0)
+
+    found : Sought st index u h f (restIn v (sign (high .0)) (pairOf high low)) r
+    found = w .sought u z (restIn v (sign (high .0)) (pairOf high low)) (λ m e. absurd (omega arith))
+
+    none-left : restAt st (r .at - 1) 2 ≡ restIn v (sign (high .0)) (pairOf high low)
+    none-left = run-ends _ _ 2 2 (omega arith) ∙ sym (run-ends _ _ 2 2 (omega arith))

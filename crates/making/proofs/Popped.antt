@@ -30,7 +30,7 @@ module _ {h : Used} {st : Store} {index : List ℕ} (l : Lent h st index) (u : �
   rules = sound .records .rules u (omega arith)
 
   module _ {e n : ℕ} (first : e ≡ firstAt (st .nodes) u) (count : n ≡ countAt (st .nodes) u) {st′ : Store} {index′ : List ℕ} (q : RecordPut (st .nodes) u 0 0 0 (st′ .nodes)) (p : EdgesBlank (st .children) (st .cuts) e n (st′ .children) (st′ .cuts))
-      (i : NodeOut (room (st .nodes)) u (bucketAt st u) (row.prevOf (room (st .nodes)) (row.words index) u) (row.nextOf (room (st .nodes)) (row.words index) u) index index′) where
+      {b before behind : ℕ} (bucket : b ≡ bucketAt st u) (before-is : before ≡ row.prevOf (room (st .nodes)) (row.words index) u) (behind-is : behind ≡ row.nextOf (room (st .nodes)) (row.words index) u) (i : NodeOut (room (st .nodes)) u b before behind index index′) where
     words : MoreWords u e (countAt (st .nodes) u) st′ st
     words = record {
       long = sym (q .long);
@@ -58,9 +58,12 @@ module _ {h : Used} {st : Store} {index : List ℕ} (l : Lent h st index) (u : �
     next : suc u ≡ u + 1
     next = omega arith
 
+    gone : NodeOut (room (st .nodes)) u (bucketAt st u) (row.prevOf (room (st .nodes)) (row.words index) u) (row.nextOf (room (st .nodes)) (row.words index) u) index index′
+    gone = rw (sym bucket, sym before-is, sym behind-is) i
+
     pub popped : TakenBack u h st (record { nodes = u; edges = e }) st′ index′
     popped = record {
-      lent = record { allowed = allowed-same (l .allowed) (q .long) (p .wide) (p .deep) (i .broad); sound = sound-shrunk sound first words i; edges = sym (start-shrunk sound first words) };
+      lent = record { allowed = allowed-same (l .allowed) (q .long) (p .wide) (p .deep) (i .broad); sound = sound-shrunk sound first words gone; edges = sym (start-shrunk sound first words) };
       used-is = refl;
       stays = record {
         long = sym (q .long);

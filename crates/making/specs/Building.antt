@@ -60,8 +60,11 @@ contentOf v s es = key (hashIn v s es (es .len)) v (es .len) (λ j. under s (chi
 
 -- A high edge and a low one. A boolean has two positions, 0 for yes and 1 for no, so the high edge ends before 1. The code makes boolean nodes
 -- from the two ids; this is the form in which the same is said of them as of other nodes.
-unfoldable pub pairOf : NodeId → NodeId → built.Edges
-pairOf high low = record { list = set (set (replicate mostEdges none) 0 (record { cut = 1; child = high; spare = 0 })) 1 (record { cut = 0; child = low; spare = 0 }); len = 2 }
+unfoldable pub pairList : NodeId → NodeId → List Edge
+pairList high low = set (set (replicate mostEdges none) 0 (record { cut = 1; child = high; spare = 0 })) 1 (record { cut = 0; child = low; spare = 0 })
+
+abbrev pub pairOf : NodeId → NodeId → built.Edges
+pairOf high low = record { list = pairList high low; len = 2 }
 
 -- Record n is this node.
 pub record Matches (st : Store) (n v s : ℕ) (es : built.Edges) : Type 0 where

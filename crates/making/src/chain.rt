@@ -81,13 +81,7 @@ fn edge_compared(children: &[u32], cuts: &[i64], i: usize, c: usize, k: usize) -
 }
 
 // How node n stands to one of hash h with this front.
-fn front_compared(
-    nodes: &[u32],
-    children: &[u32],
-    cuts: &[i64],
-    n: usize,
-    f: Front,
-) -> usize
+fn front_compared(nodes: &[u32], children: &[u32], cuts: &[i64], n: usize, f: Front) -> usize
     requires { ⌜ (n * 4 + 4 ≤ length (now nodes)) × (length (now cuts) ≡ length (now children)) × (Rules (store (now nodes) (now children) (now cuts)) n) ⌝ }
     ensures { λ r. ⌜ Ordered (frontAt (store (now (nodes .entry)) (now (children .entry)) (now (cuts .entry))) n) (frontOf f) r ⌝ }
 {
@@ -129,7 +123,13 @@ fn rest_compared(
         let e = es.list[j];
         let c = e.child.negate(lead);
         // By `key_of`, since the last edge of a node under construction may have any cut, where the table has 0.
-        let by_edge = edge_compared(children, cuts, first + j, wide(c.0), key_of(v, j, count, e.cut));
+        let by_edge = edge_compared(
+            children,
+            cuts,
+            first + j,
+            wide(c.0),
+            key_of(v, j, count, e.cut),
+        );
         if by_edge != SAME {
             return by_edge;
         }

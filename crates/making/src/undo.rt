@@ -44,18 +44,18 @@ fn pop(
     let count = count_of(nodes, n);
     let e = first_of(nodes, n);
     // Its own words say where it stands in its bucket, and in which: no hash is computed again.
-    let behind = index[rooms + n];
-    let before = index[rooms * 2 + n];
+    let behind = word(index, rooms + n);
+    let before = word(index, rooms * 2 + n);
     let bucket = scaled(word(index, rooms * 3 + n), rooms);
     splice(
         index,
         rooms,
         n,
         bucket,
-        before as usize,
-        behind as usize,
-        behind,
         before,
+        behind,
+        behind as u32,
+        before as u32,
         0,
         0,
         0,

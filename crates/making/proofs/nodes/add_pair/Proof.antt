@@ -1,38 +1,21 @@
+-- `nodes::add_pair` meets its contract: `add` on a high and a low edge. Assumes nothing.
+use mathlib.Core.Path.{sym}
+use native.Mathlib.Omega.{arith}
 use borrow.Author.Needs.{needs}
+use Rattle.making.proofs.Kept.{edges-inside}
+use Rattle.making.proofs.Pairs.{pair-high, pair-put}
+use Rattle.making.proofs.Adding.{before-le, behind-le, hash-small, added}
 use Rattle.making.proofs.nodes.add_pair.Statement.{statement}
 use Rattle.making.proofs.nodes.add_pair.Tie as tie
-use Rattle.making.proofs.nodes.add_pair.Reads as reads
-use Rattle.making.proofs.nodes.add_pair.Lts as lts
-use Rattle.making.proofs.nodes.enter.Reads as enter-reads
-use Rattle.making.proofs.nodes.put_pair.Reads as put-pair-reads
 
--- src/nodes.rt:173:5
 put-pair-requires : tie.Need-put-pair-requires
-put-pair-requires c κs = search needs
+put-pair-requires c κs = ((c .before .before .before .before .before .pre .7), (c .before .before .before .before .before .pre .0 .allowed .cut-each))
 
--- src/nodes.rt:174:5
 enter-requires : tie.Need-enter-requires
-enter-requires c κs = ?
+enter-requires c κs = ((c .before .before .before .before .before .before .before .before .before .before .before .pre .0 .allowed .indexed), (c .before .before .before .before .before .before .before .before .before .before .before .pre .0 .allowed .most-nodes), (c .before .before .before .before .before .before .before .before .before .before .before .pre .6), omega (arith, edges-inside (c .before .before .before .before .before .before .before .before .before .before .before .pre .0), (c .before .before .before .before .before .before .before .before .before .before .before .pre .0 .allowed .most-edges)), (c .before .before .before .before .before .before .before .before .before .before .before .pre .1 .known), omega arith, hash-small (c .before .before .before .before .before .before .before .before .before .before .before .pre .0) (c .before .before .before .before .before .before .before .before .before .before .before .pre .1) (omega arith) (sym (pair-high (c .before .before .before .before .before .before .before .before .before .before .before .args .high) (c .before .before .before .before .before .before .before .before .before .before .before .args .low))) (c .before .before .before .before .before .before .before .before .before .before .before .pre .3) (c .before .before .before .before .before .before .before .before .before .before .before .pre .4) (c .before .before .before .before .before .before .before .before .before .before .before .pre .5) (c .before .before .before .before .before .before .before .before .before .before .before .pre .6) (c .before .before .before .before .before .before .before .before .before .before .before .pre .7), before-le (c .before .before .before .before .before .before .before .before .before .before .before .pre .0) (c .before .before .before .before .before .before .before .before .before .before .before .pre .1) (omega arith) (sym (pair-high (c .before .before .before .before .before .before .before .before .before .before .before .args .high) (c .before .before .before .before .before .before .before .before .before .before .before .args .low))) (c .before .before .before .before .before .before .before .before .before .before .before .pre .3) (c .before .before .before .before .before .before .before .before .before .before .before .pre .4) (c .before .before .before .before .before .before .before .before .before .before .before .pre .5) (c .before .before .before .before .before .before .before .before .before .before .before .pre .6) (c .before .before .before .before .before .before .before .before .before .before .before .pre .7), behind-le (c .before .before .before .before .before .before .before .before .before .before .before .pre .0) (c .before .before .before .before .before .before .before .before .before .before .before .pre .1) (omega arith) (sym (pair-high (c .before .before .before .before .before .before .before .before .before .before .before .args .high) (c .before .before .before .before .before .before .before .before .before .before .before .args .low))) (c .before .before .before .before .before .before .before .before .before .before .before .pre .3) (c .before .before .before .before .before .before .before .before .before .before .before .pre .4) (c .before .before .before .before .before .before .before .before .before .before .before .pre .5) (c .before .before .before .before .before .before .before .before .before .before .before .pre .6) (c .before .before .before .before .before .before .before .before .before .before .before .pre .7))
 
--- src/nodes.rt:158:1
-same-length : tie.Need-same-length
-same-length c = search needs
-
--- src/nodes.rt:158:1
-same-length-2 : tie.Need-same-length-2
-same-length-2 c = search needs
-
--- src/nodes.rt:158:1
-same-length-3 : tie.Need-same-length-3
-same-length-3 c = search needs
-
--- src/nodes.rt:158:1
-same-length-4 : tie.Need-same-length-4
-same-length-4 c = search needs
-
--- src/nodes.rt:158:1
 returns : tie.Need-returns
-returns c = ?
+returns c = added (c .before .before .before .before .before .before .before .before .before .before .before .before .before .before .before .before .pre .0) (c .before .before .before .before .before .before .before .before .before .before .before .before .before .before .before .before .pre .1) (omega arith) (sym (pair-high (c .before .before .before .before .before .before .before .before .before .before .before .before .before .before .before .before .args .high) (c .before .before .before .before .before .before .before .before .before .before .before .before .before .before .before .before .args .low))) (c .before .before .before .before .before .before .before .before .before .before .before .before .before .before .before .before .pre .3) (c .before .before .before .before .before .before .before .before .before .before .before .before .before .before .before .before .pre .4) (c .before .before .before .before .before .before .before .before .before .before .before .before .before .before .before .before .pre .5) (c .before .before .before .before .before .before .before .before .before .before .before .before .before .before .before .before .pre .6) (c .before .before .before .before .before .before .before .before .before .before .before .before .before .before .before .before .pre .7) (c .before .before .before .before .enter .ensures .0) (pair-put (c .before .before .before .before .before .before .before .before .before .before .before .before .before .before .before .before .args .high) (c .before .before .before .before .before .before .before .before .before .before .before .before .before .before .before .before .args .low) (c .before .before .before .before .before .before .before .before .before .before .before .before .before .before .before .before .args .v) (c .before .before .before .before .before .before .before .before .before .before .before .before .before .before .before .before .pre .2) (c .before .before .before .before .before .before .before .before .before .before .put-pair .ensures)) (c .before .before .before .before .enter .ensures .1) (c .before .before .before .before .enter .ensures .2) (c .before .before .before .before .enter .ensures .3)
 
 pub add-pair-spec : {M : Type 1} → statement M
 add-pair-spec =
@@ -40,8 +23,8 @@ add-pair-spec =
     (tie.spec
     put-pair-requires
     enter-requires
-    same-length
-    same-length-2
-    same-length-3
-    same-length-4
+    (λ c. search needs)
+    (λ c. search needs)
+    (λ c. search needs)
+    (λ c. search needs)
     returns)

@@ -1,47 +1,30 @@
+-- `nodes::extend_pair` meets its contract: one boolean node more, or no room for it. Assumes nothing.
+use mathlib.Core.Path.{sym, _∙_}
+use native.Mathlib.Omega.{arith}
 use borrow.Author.Needs.{needs}
+use borrow.Author.Tests.{not-false, not-true}
+use Rattle.table.proofs.Laws.{decided-true, decided-false}
+use Rattle.making.proofs.Kept.{edges-inside}
+use Rattle.making.specs.Building.{pairOf}
+use Rattle.making.proofs.Pairs.{pair-high}
+use Rattle.making.proofs.Creating.{no-room, added-one, added-small}
 use Rattle.making.proofs.nodes.extend_pair.Statement.{statement}
 use Rattle.making.proofs.nodes.extend_pair.Tie as tie
-use Rattle.making.proofs.nodes.extend_pair.Reads as reads
-use Rattle.making.proofs.nodes.extend_pair.Lts as lts
-use Rattle.making.proofs.nodes.add_pair.Reads as add-pair-reads
-use Rattle.making.proofs.nodes.has_room.Reads as has-room-reads
-use Rattle.making.proofs.nodes.known.Reads as known-reads
 
--- src/nodes.rt:235:9
 has-room-requires : tie.Need-has-room-requires
-has-room-requires c κs = ?
+has-room-requires c κs = ((c .before .before .before .pre .0 .sound .records .fits), (c .before .before .before .pre .0 .allowed .most-nodes), edges-inside (c .before .before .before .pre .0), (c .before .before .before .pre .0 .allowed .most-edges), (c .before .before .before .pre .1 .building .most))
 
--- src/nodes.rt:236:9
 returns : tie.Need-returns
-returns c = ?
+returns c = no-room (c .before .before .before .before .before .pre .0) (c .before .before .before .before .before .args .v) (pairOf (c .before .before .before .before .before .args .high) (c .before .before .before .before .before .args .low)) (omega arith) (sym (pair-high (c .before .before .before .before .before .args .high) (c .before .before .before .before .before .args .low))) (sym (c .before .before .before .before .before .pre .4 .at-is) ∙ (c .before .before .before .before .before .pre .5)) (decided-false (c .before .has-room .ensures) (not-true _ (c .if1 .taken))) _
 
--- src/nodes.rt:242:9
 add-pair-requires : tie.Need-add-pair-requires
-add-pair-requires c κs = ?
+add-pair-requires c κs = let room-for = decided-true (c .before .before .before .before .before .has-room .ensures) (not-false _ (c .before .before .before .before .if1 .left)) in ((c .before .before .before .before .before .before .before .before .before .pre .0), (c .before .before .before .before .before .before .before .before .before .pre .1), (c .before .before .before .before .before .before .before .before .before .pre .2), (c .before .before .before .before .before .before .before .before .before .pre .3), (c .before .before .before .before .before .before .before .before .before .pre .4), (c .before .before .before .before .before .before .before .before .before .pre .5), room-for .0, room-for .1)
 
--- src/nodes.rt:243:5
 known-requires : tie.Need-known-requires
-known-requires c κs = search needs
+known-requires c κs = added-small (c .before .before .before .before .before .before .before .before .before .before .before .before .before .before .before .before .before .pre .0) (c .before .before .before .before .before .before .before .before .before .before .before .before .before .before .before .before .before .args .v) (pairOf (c .before .before .before .before .before .before .before .before .before .before .before .before .before .before .before .before .before .args .high) (c .before .before .before .before .before .before .before .before .before .before .before .before .before .before .before .before .before .args .low)) (omega arith) (sym (pair-high (c .before .before .before .before .before .before .before .before .before .before .before .before .before .before .before .before .before .args .high) (c .before .before .before .before .before .before .before .before .before .before .before .before .before .before .before .before .before .args .low))) (sym (c .before .before .before .before .before .before .before .before .before .before .before .before .before .before .before .before .before .pre .4 .at-is) ∙ (c .before .before .before .before .before .before .before .before .before .before .before .before .before .before .before .before .before .pre .5)) (c .before .before .before .before .before .before .before .add-pair .ensures)
 
--- src/nodes.rt:220:1
-same-length : tie.Need-same-length
-same-length c = search needs
-
--- src/nodes.rt:220:1
-same-length-2 : tie.Need-same-length-2
-same-length-2 c = search needs
-
--- src/nodes.rt:220:1
-same-length-3 : tie.Need-same-length-3
-same-length-3 c = search needs
-
--- src/nodes.rt:220:1
-same-length-4 : tie.Need-same-length-4
-same-length-4 c = search needs
-
--- src/nodes.rt:220:1
 returns-2 : tie.Need-returns-2
-returns-2 c = ?
+returns-2 c = added-one (c .before .before .before .before .before .before .before .before .before .before .before .before .before .before .before .before .before .before .pre .0) (c .before .before .before .before .before .before .before .before .before .before .before .before .before .before .before .before .before .before .args .v) (pairOf (c .before .before .before .before .before .before .before .before .before .before .before .before .before .before .before .before .before .before .args .high) (c .before .before .before .before .before .before .before .before .before .before .before .before .before .before .before .before .before .before .args .low)) (omega arith) (sym (pair-high (c .before .before .before .before .before .before .before .before .before .before .before .before .before .before .before .before .before .before .args .high) (c .before .before .before .before .before .before .before .before .before .before .before .before .before .before .before .before .before .before .args .low))) (sym (c .before .before .before .before .before .before .before .before .before .before .before .before .before .before .before .before .before .before .pre .4 .at-is) ∙ (c .before .before .before .before .before .before .before .before .before .before .before .before .before .before .before .before .before .before .pre .5)) (c .before .before .before .before .before .before .before .before .add-pair .ensures) (c .known .ensures)
 
 pub extend-pair-spec : {M : Type 1} → statement M
 extend-pair-spec =
@@ -51,8 +34,8 @@ extend-pair-spec =
     returns
     add-pair-requires
     known-requires
-    same-length
-    same-length-2
-    same-length-3
-    same-length-4
+    (λ c. search needs)
+    (λ c. search needs)
+    (λ c. search needs)
+    (λ c. search needs)
     returns-2)
