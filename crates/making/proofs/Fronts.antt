@@ -1,8 +1,8 @@
 -- What a node is ordered by, compared as the code does: number by number, and in parts. Assumes nothing.
 use mathlib.Core.Path.{_≡_, refl, sym, _∙_, ap, subst}
-use mathlib.Core.Bool.{true, cond, _&&_}
+use mathlib.Core.Bool.{cond, _&&_}
 use mathlib.Core.List.{List, [], _∷_, _++_}
-use Prim.Native.Nat.{ℕ, zero, suc, _+_, _-_, _≤_, _<_}
+use Prim.Native.Nat.{ℕ, suc, _+_, _-_, _≤_, _<_}
 use native.Mathlib.Omega.{arith}
 use native.Mathlib.Numerals.{add-one}
 use lib.ListN.{length}
@@ -10,7 +10,7 @@ use lib.IntN.{ℤ}
 use lib.Dec.{ltb}
 use Rattle.ids.specs.Id.{under}
 use Rattle.diagram.specs.Table.{isRange}
-use Rattle.chains.specs.Lexical.{less, run}
+use Rattle.chains.specs.Lexical.{run}
 use Rattle.chains.proofs.Lexical.{less-smaller, less-append, less-skip}
 use Rattle.table.specs.Layout.{varAt, countAt, firstAt, kidAt, cutAt, cutPosition, Store}
 use Rattle.table.specs.Indexed.{hashAt, keyAt}

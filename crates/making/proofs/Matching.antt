@@ -1,10 +1,8 @@
 -- A record that matches a node under construction is that node, and has its hash. Assumes nothing.
 use mathlib.Core.Path.{_≡_, refl, sym, _∙_, ap}
-use mathlib.Core.List.{List}
 use mathlib.Core.Logic.{_⊎_, inl, inr, ⊎-elim}
 use Prim.Native.Nat.{ℕ, zero, suc, _+_, _-_, _*_, _/_, _≤_, _<_}
 use native.Mathlib.Omega.{arith}
-use lib.IntN.{ℤ}
 use Rattle.ids.specs.Id.{under}
 use Rattle.diagram.specs.Pieces.{Pieces, last, cut, count, Reduced, run}
 use Rattle.diagram.specs.Table.{topOf, Node}

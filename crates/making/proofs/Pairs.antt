@@ -1,5 +1,5 @@
 -- The two edges of a boolean variable. Assumes nothing.
-use mathlib.Core.Path.{_≡_, refl, sym, _∙_, ap, ap₂, subst}
+use mathlib.Core.Path.{_≡_, sym, _∙_, ap, ap₂, subst}
 use mathlib.Core.Bool.{cond, _&&_}
 use mathlib.Core.List.{List, [], _∷_}
 use mathlib.Core.Logic.{⊎-elim}
@@ -59,9 +59,6 @@ module _ (high low : NodeId) where
 
   pub pair-low : childIn (pairOf high low) 1 ≡ low .0
   pair-low = ap (λ (x : Edge). x .child .0) slot-low
-
-  pair-cut : cutIn (pairOf high low) 0 ≡ 1
-  pair-cut = ap (λ (x : Edge). x .cut) slot-high
 
   pub pair-building : Building (pairOf high low)
   unfolding pairList

@@ -3,17 +3,16 @@ use mathlib.Core.Path.{_≡_, refl, sym, _∙_, ap, subst}
 use mathlib.Core.Bool.{false}
 use mathlib.Core.Logic.{⊎-elim}
 use mathlib.Core.List.{List}
-use Prim.Native.Nat.{ℕ, _*_, _/_, _≤_, _<_}
+use Prim.Native.Nat.{ℕ, _*_, _/_}
 use native.Mathlib.Omega.{arith}
 use lib.ListN.{length, getD}
 use lib.Seq.{ext-getD}
-use lib.IntN.{ℤ, pos}
+use lib.IntN.{pos}
 use Rattle.ids.specs.declared.NodeId.{NodeId}
 use Rattle.diagram.specs.Table.{Table}
 use Rattle.diagram.specs.Room.{Fits}
 use Rattle.table.specs.Layout.{kidAt, cutAt, room, start, Lengths, Store}
 use Rattle.table.specs.Lent.{SoundLent}
-use Rattle.table.specs.Told.{Allowed}
 use Rattle.table.proofs.Laws.{lt-or-le, not-false-and-true}
 use Rattle.table.proofs.Determined.{same-store, same-index}
 use Rattle.making.specs.declared.nodes.Used.{Used}

@@ -9,7 +9,7 @@ use native.Mathlib.Nat.{eq-or-lt-of-le}
 use lib.ListN.{getD}
 use Rattle.chains.specs.Before.{Strict}
 use Rattle.chains.specs.Lexical.{less}
-use Rattle.chains.specs.Row.{words, nextOf, from}
+use Rattle.chains.specs.Row.{from}
 use Rattle.chains.specs.Place.{Splits}
 use Rattle.chains.proofs.Lexical.{by-strict, splits, less-smaller, less-equal, less-append}
 use Rattle.chains.proofs.Rank.{left-ends}
@@ -20,7 +20,6 @@ use Rattle.table.specs.Lent.{SoundLent}
 use Rattle.table.proofs.Laws as laws
 use Rattle.table.proofs.Whole.{bucket-lt}
 use Rattle.making.specs.declared.chain.Front.{Front}
-use Rattle.making.specs.declared.chain.Spot.{Spot}
 use Rattle.making.specs.Seeking.{Ordered, frontAt, restAt, frontOf, fronted, bucketOf, Low, High, Place, Walks, Passed, far, Seekable, Sought, Seeks}
 use Rattle.making.proofs.Fronts.{key-front}
 

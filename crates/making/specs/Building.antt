@@ -5,7 +5,6 @@ use mathlib.Core.List.{List}
 use Prim.Native.Nat.{ℕ, zero, suc, _+_, _-_, _%_, _≤_, _<_, _^_}
 use lib.Dec.{ltb}
 use lib.ListN.{length, getD, set, replicate}
-use lib.IntN.{ℤ}
 use Rattle.ids.specs.Id.{under}
 use Rattle.ids.specs.declared.NodeId.{NodeId}
 use Rattle.chains.specs.Lexical.{key}

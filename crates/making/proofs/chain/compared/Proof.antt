@@ -1,7 +1,7 @@
 -- `chain::compared` meets its contract. Assumes nothing.
 use native.Mathlib.Omega.{arith}
 use Rattle.making.proofs.Fronts.{ordered-before, ordered-behind, ordered-same}
-use mathlib.Core.List.{List, [], _∷_}
+use mathlib.Core.List.{[], _∷_}
 use mathlib.Core.Path.{_≡_, ap}
 use Prim.Native.Nat.{ℕ}
 use Rattle.making.proofs.chain.compared.Statement.{statement}

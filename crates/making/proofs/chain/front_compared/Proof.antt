@@ -1,6 +1,5 @@
 -- `chain::front_compared` meets its contract: part by part, until one decides. Assumes nothing.
 use mathlib.Core.Path.{refl, ap}
-use mathlib.Core.List.{List, [], _∷_}
 use Prim.Native.Nat.{ℕ, _+_}
 use native.Mathlib.Omega.{arith}
 use borrow.Author.Needs.{needs}
@@ -19,15 +18,19 @@ edge-compared-requires : tie.Need-edge-compared-requires
 edge-compared-requires c κs = (omega (arith, (c .first-of .ensures .0), (c .before .before .before .before .before .before .before .before .before .pre .2 .inside), (c .before .before .before .before .before .before .before .before .before .pre .2 .many)), (c .before .before .before .before .before .before .before .before .before .pre .1))
 
 returns-3 : tie.Need-returns-3
-returns-3 c = number-further (c .before .before .before .before .before .before .before .before .var-of .ensures .0) (c .before .before .before .before .before .before .before .compared .ensures) (c .before .before .before .before .before .before .if1 .left) (number-further (c .before .before .before .before .before .count-of .ensures .0) (c .before .before .before .before .compared2 .ensures) (c .before .before .before .if2 .left)
-    (ordered-decided _ _ _ _ refl (edge-at-equal (now (c .before .before .before .before .before .before .before .before .before .before .before .args .children)) (now (c .before .before .before .before .before .before .before .before .before .before .before .args .cuts)) (c .before .before .first-of .ensures .0) (c .before .edge-compared .ensures)) (c .if3 .taken)))
+returns-3 c =
+    let args· = c .before .before .before .before .before .before .before .before .before .before .before .args in
+    number-further (c .before .before .before .before .before .before .before .before .var-of .ensures .0) (c .before .before .before .before .before .before .before .compared .ensures) (c .before .before .before .before .before .before .if1 .left) (number-further (c .before .before .before .before .before .count-of .ensures .0) (c .before .before .before .before .compared2 .ensures) (c .before .before .before .if2 .left)
+    (ordered-decided _ _ _ _ refl (edge-at-equal (now (args· .children)) (now (args· .cuts)) (c .before .before .first-of .ensures .0) (c .before .edge-compared .ensures)) (c .if3 .taken)))
 
 edge-compared-requires-2 : tie.Need-edge-compared-requires-2
 edge-compared-requires-2 c κs = (omega (arith, (c .before .before .first-of .ensures .0), (c .before .before .before .before .before .before .before .before .before .before .before .pre .2 .inside), (c .before .before .before .before .before .before .before .before .before .before .before .pre .2 .many)), (c .before .before .before .before .before .before .before .before .before .before .before .pre .1))
 
 returns-4 : tie.Need-returns-4
-returns-4 c = number-further (c .before .before .before .before .before .before .before .before .before .var-of .ensures .0) (c .before .before .before .before .before .before .before .before .compared .ensures) (c .before .before .before .before .before .before .before .if1 .left) (number-further (c .before .before .before .before .before .before .count-of .ensures .0) (c .before .before .before .before .before .compared2 .ensures) (c .before .before .before .before .if2 .left)
-    (ordered-further _ _ (edge-at-equal (now (c .before .before .before .before .before .before .before .before .before .before .before .before .args .children)) (now (c .before .before .before .before .before .before .before .before .before .before .before .before .args .cuts)) (c .before .before .before .first-of .ensures .0) (c .before .before .edge-compared .ensures) .same (c .before .if3 .left)) (edge-at-equal (now (c .before .before .before .before .before .before .before .before .before .before .before .before .args .children)) (now (c .before .before .before .before .before .before .before .before .before .before .before .before .args .cuts)) (ap (λ (i : ℕ). i + 1) (c .before .before .before .first-of .ensures .0)) (c .edge-compared2 .ensures))))
+returns-4 c =
+    let args· = c .before .before .before .before .before .before .before .before .before .before .before .before .args in
+    number-further (c .before .before .before .before .before .before .before .before .before .var-of .ensures .0) (c .before .before .before .before .before .before .before .before .compared .ensures) (c .before .before .before .before .before .before .before .if1 .left) (number-further (c .before .before .before .before .before .before .count-of .ensures .0) (c .before .before .before .before .before .compared2 .ensures) (c .before .before .before .before .if2 .left)
+    (ordered-further _ _ (edge-at-equal (now (args· .children)) (now (args· .cuts)) (c .before .before .before .first-of .ensures .0) (c .before .before .edge-compared .ensures) .same (c .before .if3 .left)) (edge-at-equal (now (args· .children)) (now (args· .cuts)) (ap (λ (i : ℕ). i + 1) (c .before .before .before .first-of .ensures .0)) (c .edge-compared2 .ensures))))
 
 pub front-compared-spec : {M : Type 1} → statement M
 front-compared-spec =

@@ -1,5 +1,5 @@
 -- `chain::rest_compared` meets its contract: edge by edge, until one decides. Assumes nothing.
-use mathlib.Core.Path.{_≡_, refl, _∙_}
+use mathlib.Core.Path.{_∙_}
 use Prim.Native.Nat.{ℕ, _-_, _≤_}
 use native.Mathlib.Omega.{arith}
 use borrow.Author.Needs.{needs}
@@ -33,7 +33,10 @@ edge-compared-requires : tie.Need-edge-compared-requires Inv-loop μ-loop
 edge-compared-requires c κs = (omega (arith, (c .before .before .before .before .before .before .first-of .ensures .0), (c .before .before .before .before .before .before .before .before .before .pre .2 .inside), (c .before .before .before .before .before .before .before .before .before .pre .5)), (c .before .before .before .before .before .before .before .before .before .pre .1))
 
 returns : tie.Need-returns Inv-loop μ-loop
-returns c = (c .before .before .before .before .before .before .before .loop .inv .2) _ (edges-decided (store (now (c .before .before .before .before .before .before .before .before .before .before .before .args .nodes)) (now (c .before .before .before .before .before .before .before .before .before .before .before .args .children)) (now (c .before .before .before .before .before .before .before .before .before .before .before .args .cuts))) (c .before .before .before .before .before .before .before .before .before .before .before .args .n) (c .before .before .before .before .before .before .before .before .before .before .before .args .v) (sign (c .before .before .before .before .before .before .before .before .before .before .before .args .lead .0)) (c .before .before .before .before .before .before .before .before .before .before .before .args .t7) (c .before .before .before .before .before .before .before .loop .j) (c .before .before .before .before .before .before .loop-test .taken) (c .before .before .before .before .before .before .before .before .first-of .ensures .0) ((c .before .before .before .wide .ensures .0) ∙ (c .before .before .before .before .negate .ensures)) ((c .before .before .key-of .ensures) ∙ key-is (c .before .before .before .before .before .before .before .before .before .before .before .args .v) (c .before .before .before .before .before .before .before .loop .j) (c .before .before .before .before .before .before .before .before .before .before .before .args .t7)) (c .before .edge-compared .ensures) (c .if1 .taken))
+returns c =
+    let args· = c .before .before .before .before .before .before .before .before .before .before .before .args in
+    let loop· = c .before .before .before .before .before .before .before .loop in
+    (loop· .inv .2) _ (edges-decided (store (now (args· .nodes)) (now (args· .children)) (now (args· .cuts))) (args· .n) (args· .v) (sign (args· .lead .0)) (args· .t7) (loop· .j) (c .before .before .before .before .before .before .loop-test .taken) (c .before .before .before .before .before .before .before .before .first-of .ensures .0) ((c .before .before .before .wide .ensures .0) ∙ (c .before .before .before .before .negate .ensures)) ((c .before .before .key-of .ensures) ∙ key-is (args· .v) (loop· .j) (args· .t7)) (c .before .edge-compared .ensures) (c .if1 .taken))
 
 add-j : tie.Need-add-j Inv-loop μ-loop
 add-j c = omega (arith, (c .before .before .before .before .before .before .before .before .before .before .before .pre .3 .most))

@@ -1,8 +1,7 @@
 -- `chain::seek` meets its contract: the walk of crate `chains` (proofs/Found). Assumes nothing.
-use mathlib.Core.Path.{_≡_, refl, sym, _∙_, ap}
+use mathlib.Core.Path.{_∙_, ap}
 use mathlib.Core.Logic.{⊎-elim}
-use mathlib.Core.List.{List}
-use Prim.Native.Nat.{ℕ, _-_, _<_}
+use Prim.Native.Nat.{ℕ, _-_}
 use native.Mathlib.Omega.{arith}
 use lib.ListN.{getD}
 use borrow.Author.Needs.{needs}
@@ -24,13 +23,17 @@ scaled-requires : tie.Need-scaled-requires Inv-loop μ-loop
 scaled-requires c κs = ((c .before .before .before .pre .1), (c .before .before .before .pre .0 .some-nodes), (c .before .before .before .pre .0 .most-nodes))
 
 lead-from-requires : tie.Need-lead-from-requires Inv-loop μ-loop
-lead-from-requires c κs = ((c .before .before .before .before .pre .0 .most-nodes), (c .scaled .ensures .1), going-from (store (now (c .before .before .before .before .args .nodes)) (now (c .before .before .before .before .args .children)) (now (c .before .before .before .before .args .cuts))) (now (c .before .before .before .before .args .index)) (c .before .before .before .before .args .h) (c .before .before .before .before .args .f) (c .before .before .before .before .args .from) (c .before .before .before .before .pre .0 .some-nodes) (c .before .before .before .before .pre .1) (c .before .before .before .before .pre .2))
+lead-from-requires c κs =
+    let start = c .before .before .before .before in
+    ((start .pre .0 .most-nodes), (c .scaled .ensures .1), going-from (store (now (start .args .nodes)) (now (start .args .children)) (now (start .args .cuts))) (now (start .args .index)) (start .args .h) (start .args .f) (start .args .from) (start .pre .0 .some-nodes) (start .pre .1) (start .pre .2))
 
 word-requires : tie.Need-word-requires Inv-loop μ-loop
 word-requires c κs = omega (arith, (c .lead-from .ensures .1), (c .before .before .before .before .before .pre .0 .indexed))
 
 loop-holds : tie.Need-loop-holds Inv-loop μ-loop
-loop-holds c = going-starts (store (now (c .before .before .before .before .before .before .args .nodes)) (now (c .before .before .before .before .before .before .args .children)) (now (c .before .before .before .before .before .before .args .cuts))) (now (c .before .before .before .before .before .before .args .index)) (c .before .before .before .before .before .before .args .h) (c .before .before .before .before .before .before .args .f) (c .before .before .before .before .before .before .args .from) (c .before .before .before .before .before .before .pre .0 .some-nodes) (c .before .before .before .before .before .before .pre .1) (c .before .before .before .before .before .before .pre .2) ((c .word .ensures .0) ∙ ap (λ (i : ℕ). getD (now (c .before .before .before .before .before .before .args .index)) i 0) ((c .before .lead-from .ensures .0) ∙ ap (λ (b : ℕ). from (room (now (c .before .before .before .before .before .before .args .nodes))) b (c .before .before .before .before .before .before .args .from)) (c .before .before .scaled .ensures .0)))
+loop-holds c =
+    let start = c .before .before .before .before .before .before in
+    going-starts (store (now (start .args .nodes)) (now (start .args .children)) (now (start .args .cuts))) (now (start .args .index)) (start .args .h) (start .args .f) (start .args .from) (start .pre .0 .some-nodes) (start .pre .1) (start .pre .2) ((c .word .ensures .0) ∙ ap (λ (i : ℕ). getD (now (start .args .index)) i 0) ((c .before .lead-from .ensures .0) ∙ ap (λ (b : ℕ). from (room (now (start .args .nodes))) b (start .args .from)) (c .before .before .scaled .ensures .0)))
 
 mul-word : tie.Need-mul-word Inv-loop μ-loop
 mul-word c = omega (arith, (c .before .before .before .before .before .before .before .before .pre .0 .most-nodes))
@@ -42,7 +45,9 @@ word-requires-2 : tie.Need-word-requires-2 Inv-loop μ-loop
 word-requires-2 c κs = let w = going-within (store (now (c .before .before .before .before .before .before .before .before .args .nodes)) (now (c .before .before .before .before .before .before .before .before .args .children)) (now (c .before .before .before .before .before .before .before .before .args .cuts))) (now (c .before .before .before .before .before .before .before .before .args .index)) (c .before .before .before .before .before .before .before .before .args .h) (c .before .before .before .before .before .before .before .before .args .f) (c .before .before .before .before .before .before .before .before .args .from) (c .before .before .before .before .before .before .before .before .pre .0 .some-nodes) (c .before .before .before .before .before .before .before .before .pre .1) (c .before .before .before .before .before .before .before .before .pre .2) (c .before .loop .inv) (c .loop-test .taken) in omega (arith, (c .loop-test .taken), (c .before .before .before .before .before .before .before .before .pre .0 .indexed), (c .before .before .before .before .before .before .before .before .pre .2 .sound .records .fits))
 
 returns : tie.Need-returns Inv-loop μ-loop
-returns c = seeks-stop (store (now (c .before .before .before .before .before .before .before .before .before .before .args .nodes)) (now (c .before .before .before .before .before .before .before .before .before .before .args .children)) (now (c .before .before .before .before .before .before .before .before .before .before .args .cuts))) (now (c .before .before .before .before .before .before .before .before .before .before .args .index)) (c .before .before .before .before .before .before .before .before .before .before .args .h) (c .before .before .before .before .before .before .before .before .before .before .args .f) (c .before .before .before .before .before .before .before .before .before .before .args .from) (c .before .before .before .before .before .before .before .before .before .before .pre .0 .some-nodes) (c .before .before .before .before .before .before .before .before .before .before .pre .1) (c .before .before .before .before .before .before .before .before .before .before .pre .2) (c .before .before .before .loop .inv) (c .before .before .loop-test .taken) (λ u z l rest. hash-high z l (c .before .word2 .ensures .0) (c .before .before .before .before .before .before .before .before .before .before .args .h) (c .before .before .before .before .before .before .before .before .before .before .args .f) rest (c .if1 .taken))
+returns c =
+    let start = c .before .before .before .before .before .before .before .before .before .before in
+    seeks-stop (store (now (start .args .nodes)) (now (start .args .children)) (now (start .args .cuts))) (now (start .args .index)) (start .args .h) (start .args .f) (start .args .from) (start .pre .0 .some-nodes) (start .pre .1) (start .pre .2) (c .before .before .before .loop .inv) (c .before .before .loop-test .taken) (λ u z l rest. hash-high z l (c .before .word2 .ensures .0) (start .args .h) (start .args .f) rest (c .if1 .taken))
 
 front-compared-requires : tie.Need-front-compared-requires Inv-loop μ-loop
 front-compared-requires c κs = let w = going-within (store (now (c .before .before .before .before .before .before .before .before .before .before .before .args .nodes)) (now (c .before .before .before .before .before .before .before .before .before .before .before .args .children)) (now (c .before .before .before .before .before .before .before .before .before .before .before .args .cuts))) (now (c .before .before .before .before .before .before .before .before .before .before .before .args .index)) (c .before .before .before .before .before .before .before .before .before .before .before .args .h) (c .before .before .before .before .before .before .before .before .before .before .before .args .f) (c .before .before .before .before .before .before .before .before .before .before .before .args .from) (c .before .before .before .before .before .before .before .before .before .before .before .pre .0 .some-nodes) (c .before .before .before .before .before .before .before .before .before .before .before .pre .1) (c .before .before .before .before .before .before .before .before .before .before .before .pre .2) (c .before .before .before .before .loop .inv) (c .before .before .before .loop-test .taken) in (omega (arith, (c .before .before .before .loop-test .taken), (c .before .before .before .before .before .before .before .before .before .before .before .pre .0 .whole), (c .before .before .before .before .before .before .before .before .before .before .before .pre .2 .sound .records .fits)), (c .before .before .before .before .before .before .before .before .before .before .before .pre .0 .cut-each), (c .before .before .before .before .before .before .before .before .before .before .before .pre .2 .sound .records .rules) ((c .before .before .before .before .loop .at) - 1) (omega (arith, (c .before .before .before .loop-test .taken))))
@@ -51,7 +56,9 @@ returns-2 : tie.Need-returns-2 Inv-loop μ-loop
 returns-2 c = let w = going-within (store (now (c .before .before .before .before .before .before .before .before .before .before .before .before .before .args .nodes)) (now (c .before .before .before .before .before .before .before .before .before .before .before .before .before .args .children)) (now (c .before .before .before .before .before .before .before .before .before .before .before .before .before .args .cuts))) (now (c .before .before .before .before .before .before .before .before .before .before .before .before .before .args .index)) (c .before .before .before .before .before .before .before .before .before .before .before .before .before .args .h) (c .before .before .before .before .before .before .before .before .before .before .before .before .before .args .f) (c .before .before .before .before .before .before .before .before .before .before .before .before .before .args .from) (c .before .before .before .before .before .before .before .before .before .before .before .before .before .pre .0 .some-nodes) (c .before .before .before .before .before .before .before .before .before .before .before .before .before .pre .1) (c .before .before .before .before .before .before .before .before .before .before .before .before .before .pre .2) (c .before .before .before .before .before .before .loop .inv) (c .before .before .before .before .before .loop-test .taken) in seeks-node (store (now (c .before .before .before .before .before .before .before .before .before .before .before .before .before .args .nodes)) (now (c .before .before .before .before .before .before .before .before .before .before .before .before .before .args .children)) (now (c .before .before .before .before .before .before .before .before .before .before .before .before .before .args .cuts))) (now (c .before .before .before .before .before .before .before .before .before .before .before .before .before .args .index)) (c .before .before .before .before .before .before .before .before .before .before .before .before .before .args .h) (c .before .before .before .before .before .before .before .before .before .before .before .before .before .args .f) (c .before .before .before .before .before .before .before .before .before .before .before .before .before .args .from) (c .before .before .before .before .before .before .before .before .before .before .before .before .before .pre .0 .some-nodes) (c .before .before .before .before .before .before .before .before .before .before .before .before .before .pre .1) (c .before .before .before .before .before .before .before .before .before .before .before .before .before .pre .2) (c .before .before .before .before .before .before .loop .inv) (c .before .before .before .before .before .loop-test .taken) (front-same (c .before .before .before .before .before .before .before .before .before .before .before .before .before .pre .2 .sound) (omega (arith, (c .before .before .before .before .before .loop-test .taken))) (c .before .before .before .before .word2 .ensures .0) (c .before .before .before .before .before .before .before .before .before .before .before .before .before .args .h) (c .before .before .before .before .before .before .before .before .before .before .before .before .before .args .f) (c .before .before .if2 .taken) (c .before .front-compared .ensures) (c .if3 .taken))
 
 returns-3 : tie.Need-returns-3 Inv-loop μ-loop
-returns-3 c = seeks-stop (store (now (c .before .before .before .before .before .before .before .before .before .before .before .before .before .before .args .nodes)) (now (c .before .before .before .before .before .before .before .before .before .before .before .before .before .before .args .children)) (now (c .before .before .before .before .before .before .before .before .before .before .before .before .before .before .args .cuts))) (now (c .before .before .before .before .before .before .before .before .before .before .before .before .before .before .args .index)) (c .before .before .before .before .before .before .before .before .before .before .before .before .before .before .args .h) (c .before .before .before .before .before .before .before .before .before .before .before .before .before .before .args .f) (c .before .before .before .before .before .before .before .before .before .before .before .before .before .before .args .from) (c .before .before .before .before .before .before .before .before .before .before .before .before .before .before .pre .0 .some-nodes) (c .before .before .before .before .before .before .before .before .before .before .before .before .before .before .pre .1) (c .before .before .before .before .before .before .before .before .before .before .before .before .before .before .pre .2) (c .before .before .before .before .before .before .before .loop .inv) (c .before .before .before .before .before .before .loop-test .taken) (λ u z l rest. front-high z l (c .before .before .before .before .before .word2 .ensures .0) (c .before .before .before .before .before .before .before .before .before .before .before .before .before .before .args .h) (c .before .before .before .before .before .before .before .before .before .before .before .before .before .before .args .f) (c .before .before .before .if2 .taken) (c .before .before .front-compared .ensures) rest (c .if4 .taken))
+returns-3 c =
+    let start = c .before .before .before .before .before .before .before .before .before .before .before .before .before .before in
+    seeks-stop (store (now (start .args .nodes)) (now (start .args .children)) (now (start .args .cuts))) (now (start .args .index)) (start .args .h) (start .args .f) (start .args .from) (start .pre .0 .some-nodes) (start .pre .1) (start .pre .2) (c .before .before .before .before .before .before .before .loop .inv) (c .before .before .before .before .before .before .loop-test .taken) (λ u z l rest. front-high z l (c .before .before .before .before .before .word2 .ensures .0) (start .args .h) (start .args .f) (c .before .before .before .if2 .taken) (c .before .before .front-compared .ensures) rest (c .if4 .taken))
 
 add-word-2 : tie.Need-add-word-2 Inv-loop μ-loop
 add-word-2 c = let w = going-within (store (now (c .before .before .before .before .before .before .before .before .before .before .before .args .nodes)) (now (c .before .before .before .before .before .before .before .before .before .before .before .args .children)) (now (c .before .before .before .before .before .before .before .before .before .before .before .args .cuts))) (now (c .before .before .before .before .before .before .before .before .before .before .before .args .index)) (c .before .before .before .before .before .before .before .before .before .before .before .args .h) (c .before .before .before .before .before .before .before .before .before .before .before .args .f) (c .before .before .before .before .before .before .before .before .before .before .before .args .from) (c .before .before .before .before .before .before .before .before .before .before .before .pre .0 .some-nodes) (c .before .before .before .before .before .before .before .before .before .before .before .pre .1) (c .before .before .before .before .before .before .before .before .before .before .before .pre .2) (c .before .before .before .before .loop .inv) (c .before .before .before .loop-test .taken) in omega (arith, (c .before .before .before .before .before .before .before .before .before .before .before .pre .0 .most-nodes), (c .before .before .before .before .before .before .before .before .before .before .before .pre .2 .sound .records .fits))
@@ -60,12 +67,16 @@ word-requires-3 : tie.Need-word-requires-3 Inv-loop μ-loop
 word-requires-3 c κs = let w = going-within (store (now (c .before .before .before .before .before .before .before .before .before .before .before .args .nodes)) (now (c .before .before .before .before .before .before .before .before .before .before .before .args .children)) (now (c .before .before .before .before .before .before .before .before .before .before .before .args .cuts))) (now (c .before .before .before .before .before .before .before .before .before .before .before .args .index)) (c .before .before .before .before .before .before .before .before .before .before .before .args .h) (c .before .before .before .before .before .before .before .before .before .before .before .args .f) (c .before .before .before .before .before .before .before .before .before .before .before .args .from) (c .before .before .before .before .before .before .before .before .before .before .before .pre .0 .some-nodes) (c .before .before .before .before .before .before .before .before .before .before .before .pre .1) (c .before .before .before .before .before .before .before .before .before .before .before .pre .2) (c .before .before .before .before .loop .inv) (c .before .before .before .loop-test .taken) in omega (arith, (c .before .before .before .loop-test .taken), (c .before .before .before .before .before .before .before .before .before .before .before .pre .0 .indexed), (c .before .before .before .before .before .before .before .before .before .before .before .pre .2 .sound .records .fits))
 
 loop-less : tie.Need-loop-less Inv-loop μ-loop
-loop-less c = going-falls (store (now (c .before .before .before .before .before .before .before .before .before .before .before .before .args .nodes)) (now (c .before .before .before .before .before .before .before .before .before .before .before .before .args .children)) (now (c .before .before .before .before .before .before .before .before .before .before .before .before .args .cuts))) (now (c .before .before .before .before .before .before .before .before .before .before .before .before .args .index)) (c .before .before .before .before .before .before .before .before .before .before .before .before .args .h) (c .before .before .before .before .before .before .before .before .before .before .before .before .args .f) (c .before .before .before .before .before .before .before .before .before .before .before .before .args .from) (c .before .before .before .before .before .before .before .before .before .before .before .before .pre .0 .some-nodes) (c .before .before .before .before .before .before .before .before .before .before .before .before .pre .1) (c .before .before .before .before .before .before .before .before .before .before .before .before .pre .2) (c .before .before .before .before .before .loop .inv) (c .before .before .before .before .loop-test .taken) (c .word3 .ensures .0)
+loop-less c =
+    let start = c .before .before .before .before .before .before .before .before .before .before .before .before in
+    going-falls (store (now (start .args .nodes)) (now (start .args .children)) (now (start .args .cuts))) (now (start .args .index)) (start .args .h) (start .args .f) (start .args .from) (start .pre .0 .some-nodes) (start .pre .1) (start .pre .2) (c .before .before .before .before .before .loop .inv) (c .before .before .before .before .loop-test .taken) (c .word3 .ensures .0)
 
 loop-again : tie.Need-loop-again Inv-loop μ-loop
-loop-again c = going-on (store (now (c .before .before .before .before .before .before .before .before .before .before .before .before .args .nodes)) (now (c .before .before .before .before .before .before .before .before .before .before .before .before .args .children)) (now (c .before .before .before .before .before .before .before .before .before .before .before .before .args .cuts))) (now (c .before .before .before .before .before .before .before .before .before .before .before .before .args .index)) (c .before .before .before .before .before .before .before .before .before .before .before .before .args .h) (c .before .before .before .before .before .before .before .before .before .before .before .before .args .f) (c .before .before .before .before .before .before .before .before .before .before .before .before .args .from) (c .before .before .before .before .before .before .before .before .before .before .before .before .pre .0 .some-nodes) (c .before .before .before .before .before .before .before .before .before .before .before .before .pre .1) (c .before .before .before .before .before .before .before .before .before .before .before .before .pre .2) (c .before .before .before .before .before .loop .inv) (c .before .before .before .before .loop-test .taken) (c .word3 .ensures .0) (λ u z l rest. ⊎-elim
-    (λ w. front-low z l (c .before .before .before .word2 .ensures .0) (c .before .before .before .before .before .before .before .before .before .before .before .before .args .h) (c .before .before .before .before .before .before .before .before .before .before .before .before .args .f) (w .0 .taken) (w .1 .ensures) rest (not-same (w .2 .left) (w .3 .left)))
-    (λ w. hash-low z l (c .before .before .before .word2 .ensures .0) (c .before .before .before .before .before .before .before .before .before .before .before .before .args .h) (c .before .before .before .before .before .before .before .before .before .before .before .before .args .f) rest (not-equal (c .before .before .if1 .left) (w .left)))
+loop-again c =
+    let start = c .before .before .before .before .before .before .before .before .before .before .before .before in
+    going-on (store (now (start .args .nodes)) (now (start .args .children)) (now (start .args .cuts))) (now (start .args .index)) (start .args .h) (start .args .f) (start .args .from) (start .pre .0 .some-nodes) (start .pre .1) (start .pre .2) (c .before .before .before .before .before .loop .inv) (c .before .before .before .before .loop-test .taken) (c .word3 .ensures .0) (λ u z l rest. ⊎-elim
+    (λ w. front-low z l (c .before .before .before .word2 .ensures .0) (start .args .h) (start .args .f) (w .0 .taken) (w .1 .ensures) rest (not-same (w .2 .left) (w .3 .left)))
+    (λ w. hash-low z l (c .before .before .before .word2 .ensures .0) (start .args .h) (start .args .f) rest (not-equal (c .before .before .if1 .left) (w .left)))
     (c .before .if2 .came))
 
 returns-4 : tie.Need-returns-4 Inv-loop μ-loop

@@ -8,13 +8,18 @@ use Rattle.making.proofs.nodes.add.Statement.{statement}
 use Rattle.making.proofs.nodes.add.Tie as tie
 
 put-edges-requires : tie.Need-put-edges-requires
-put-edges-requires c κs = ((c .before .before .before .before .before .pre .1 .building), (c .before .before .before .before .before .pre .8), (c .before .before .before .before .before .pre .0 .allowed .cut-each), cut-small (c .before .before .before .before .before .args .v) (c .before .before .before .before .before .args .es) (c .before .before .before .before .before .pre .1 .reduced))
+put-edges-requires c κs =
+    let start = c .before .before .before .before .before in
+    ((start .pre .1 .building), (start .pre .8), (start .pre .0 .allowed .cut-each), cut-small (start .args .v) (start .args .es) (start .pre .1 .reduced))
 
 enter-requires : tie.Need-enter-requires
 enter-requires c κs = ((c .before .before .before .before .before .before .before .before .before .before .before .pre .0 .allowed .indexed), (c .before .before .before .before .before .before .before .before .before .before .before .pre .0 .allowed .most-nodes), (c .before .before .before .before .before .before .before .before .before .before .before .pre .7), omega (arith, edges-inside (c .before .before .before .before .before .before .before .before .before .before .before .pre .0), (c .before .before .before .before .before .before .before .before .before .before .before .pre .0 .allowed .most-edges)), (c .before .before .before .before .before .before .before .before .before .before .before .pre .1 .known), (c .before .before .before .before .before .before .before .before .before .before .before .pre .1 .building .most), hash-small (c .before .before .before .before .before .before .before .before .before .before .before .pre .0) (c .before .before .before .before .before .before .before .before .before .before .before .pre .1) (c .before .before .before .before .before .before .before .before .before .before .before .pre .2) (c .before .before .before .before .before .before .before .before .before .before .before .pre .3) (c .before .before .before .before .before .before .before .before .before .before .before .pre .4) (c .before .before .before .before .before .before .before .before .before .before .before .pre .5) (c .before .before .before .before .before .before .before .before .before .before .before .pre .6) (c .before .before .before .before .before .before .before .before .before .before .before .pre .7) (c .before .before .before .before .before .before .before .before .before .before .before .pre .8), before-le (c .before .before .before .before .before .before .before .before .before .before .before .pre .0) (c .before .before .before .before .before .before .before .before .before .before .before .pre .1) (c .before .before .before .before .before .before .before .before .before .before .before .pre .2) (c .before .before .before .before .before .before .before .before .before .before .before .pre .3) (c .before .before .before .before .before .before .before .before .before .before .before .pre .4) (c .before .before .before .before .before .before .before .before .before .before .before .pre .5) (c .before .before .before .before .before .before .before .before .before .before .before .pre .6) (c .before .before .before .before .before .before .before .before .before .before .before .pre .7) (c .before .before .before .before .before .before .before .before .before .before .before .pre .8), behind-le (c .before .before .before .before .before .before .before .before .before .before .before .pre .0) (c .before .before .before .before .before .before .before .before .before .before .before .pre .1) (c .before .before .before .before .before .before .before .before .before .before .before .pre .2) (c .before .before .before .before .before .before .before .before .before .before .before .pre .3) (c .before .before .before .before .before .before .before .before .before .before .before .pre .4) (c .before .before .before .before .before .before .before .before .before .before .before .pre .5) (c .before .before .before .before .before .before .before .before .before .before .before .pre .6) (c .before .before .before .before .before .before .before .before .before .before .before .pre .7) (c .before .before .before .before .before .before .before .before .before .before .before .pre .8))
 
 returns : tie.Need-returns
-returns c = added (c .before .before .before .before .before .before .before .before .before .before .before .before .before .before .before .before .pre .0) (c .before .before .before .before .before .before .before .before .before .before .before .before .before .before .before .before .pre .1) (c .before .before .before .before .before .before .before .before .before .before .before .before .before .before .before .before .pre .2) (c .before .before .before .before .before .before .before .before .before .before .before .before .before .before .before .before .pre .3) (c .before .before .before .before .before .before .before .before .before .before .before .before .before .before .before .before .pre .4) (c .before .before .before .before .before .before .before .before .before .before .before .before .before .before .before .before .pre .5) (c .before .before .before .before .before .before .before .before .before .before .before .before .before .before .before .before .pre .6) (c .before .before .before .before .before .before .before .before .before .before .before .before .before .before .before .before .pre .7) (c .before .before .before .before .before .before .before .before .before .before .before .before .before .before .before .before .pre .8) (c .before .before .before .before .enter .ensures .0) (c .before .before .before .before .before .before .before .before .before .before .put-edges .ensures) (c .before .before .before .before .enter .ensures .1) (c .before .before .before .before .enter .ensures .2) (c .before .before .before .before .enter .ensures .3)
+returns c =
+    let pre· = c .before .before .before .before .before .before .before .before .before .before .before .before .before .before .before .before .pre in
+    let enter· = c .before .before .before .before .enter in
+    added (pre· .0) (pre· .1) (pre· .2) (pre· .3) (pre· .4) (pre· .5) (pre· .6) (pre· .7) (pre· .8) (enter· .ensures .0) (c .before .before .before .before .before .before .before .before .before .before .put-edges .ensures) (enter· .ensures .1) (enter· .ensures .2) (enter· .ensures .3)
 
 pub add-spec : {M : Type 1} → statement M
 add-spec =

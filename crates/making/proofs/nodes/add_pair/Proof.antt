@@ -9,7 +9,9 @@ use Rattle.making.proofs.nodes.add_pair.Statement.{statement}
 use Rattle.making.proofs.nodes.add_pair.Tie as tie
 
 put-pair-requires : tie.Need-put-pair-requires
-put-pair-requires c κs = ((c .before .before .before .before .before .pre .7), (c .before .before .before .before .before .pre .0 .allowed .cut-each))
+put-pair-requires c κs =
+    let pre· = c .before .before .before .before .before .pre in
+    ((pre· .7), (pre· .0 .allowed .cut-each))
 
 enter-requires : tie.Need-enter-requires
 enter-requires c κs = ((c .before .before .before .before .before .before .before .before .before .before .before .pre .0 .allowed .indexed), (c .before .before .before .before .before .before .before .before .before .before .before .pre .0 .allowed .most-nodes), (c .before .before .before .before .before .before .before .before .before .before .before .pre .6), omega (arith, edges-inside (c .before .before .before .before .before .before .before .before .before .before .before .pre .0), (c .before .before .before .before .before .before .before .before .before .before .before .pre .0 .allowed .most-edges)), (c .before .before .before .before .before .before .before .before .before .before .before .pre .1 .known), omega arith, hash-small (c .before .before .before .before .before .before .before .before .before .before .before .pre .0) (c .before .before .before .before .before .before .before .before .before .before .before .pre .1) (omega arith) (sym (pair-high (c .before .before .before .before .before .before .before .before .before .before .before .args .high) (c .before .before .before .before .before .before .before .before .before .before .before .args .low))) (c .before .before .before .before .before .before .before .before .before .before .before .pre .3) (c .before .before .before .before .before .before .before .before .before .before .before .pre .4) (c .before .before .before .before .before .before .before .before .before .before .before .pre .5) (c .before .before .before .before .before .before .before .before .before .before .before .pre .6) (c .before .before .before .before .before .before .before .before .before .before .before .pre .7), before-le (c .before .before .before .before .before .before .before .before .before .before .before .pre .0) (c .before .before .before .before .before .before .before .before .before .before .before .pre .1) (omega arith) (sym (pair-high (c .before .before .before .before .before .before .before .before .before .before .before .args .high) (c .before .before .before .before .before .before .before .before .before .before .before .args .low))) (c .before .before .before .before .before .before .before .before .before .before .before .pre .3) (c .before .before .before .before .before .before .before .before .before .before .before .pre .4) (c .before .before .before .before .before .before .before .before .before .before .before .pre .5) (c .before .before .before .before .before .before .before .before .before .before .before .pre .6) (c .before .before .before .before .before .before .before .before .before .before .before .pre .7), behind-le (c .before .before .before .before .before .before .before .before .before .before .before .pre .0) (c .before .before .before .before .before .before .before .before .before .before .before .pre .1) (omega arith) (sym (pair-high (c .before .before .before .before .before .before .before .before .before .before .before .args .high) (c .before .before .before .before .before .before .before .before .before .before .before .args .low))) (c .before .before .before .before .before .before .before .before .before .before .before .pre .3) (c .before .before .before .before .before .before .before .before .before .before .before .pre .4) (c .before .before .before .before .before .before .before .before .before .before .before .pre .5) (c .before .before .before .before .before .before .before .before .before .before .before .pre .6) (c .before .before .before .before .before .before .before .before .before .before .before .pre .7))

@@ -11,13 +11,17 @@ returns : tie.Need-returns
 returns c = dropped (c .before .before .before .before .before .before .pre .0) (c .before .before .before .before .before .before .args .v) (c .before .before .before .before .before .before .args .t7) (omega arith) _ refl
 
 hash-edges-requires : tie.Need-hash-edges-requires
-hash-edges-requires c κs = ((c .before .before .before .before .before .before .pre .1 .building), (c .before .before .before .before .before .before .pre .1 .known), cut-small (c .before .before .before .before .before .before .args .v) (c .before .before .before .before .before .before .args .t7) (c .before .before .before .before .before .before .pre .1 .reduced))
+hash-edges-requires c κs =
+    let start = c .before .before .before .before .before .before in
+    ((start .pre .1 .building), (start .pre .1 .known), cut-small (start .args .v) (start .args .t7) (start .pre .1 .reduced))
 
 find-requires : tie.Need-find-requires
 find-requires c κs = ((c .before .before .before .before .before .before .before .before .before .before .before .pre .0 .allowed), record { used = _; sound = (c .before .before .before .before .before .before .before .before .before .before .before .pre .0 .sound); buildable = (c .before .before .before .before .before .before .before .before .before .before .before .pre .1) }, omega (arith, (c .before .before .before .before .before .if1 .left), (c .before .before .before .before .before .before .before .before .before .before .before .pre .1 .building .some)), (c .before .before .before .before .hash-edges .ensures .0))
 
 known-requires : tie.Need-known-requires
-known-requires c κs = ref-small (c .before .before .before .before .before .before .before .before .before .before .before .before .before .before .pre .0) (c .before .before .before .before .before .before .before .before .before .before .before .before .before .before .args .v) (c .before .before .before .before .before .before .before .before .before .before .before .before .before .before .args .t7) _ _ (((c .before .before .find .ensures) _ (c .before .before .before .before .before .before .before .before .before .before .before .before .before .before .pre .0 .sound)) .at-is)
+known-requires c κs =
+    let start = c .before .before .before .before .before .before .before .before .before .before .before .before .before .before in
+    ref-small (start .pre .0) (start .args .v) (start .args .t7) _ _ (((c .before .before .find .ensures) _ (start .pre .0 .sound)) .at-is)
 
 returns-2 : tie.Need-returns-2
 returns-2 c = found-one (c .before .before .before .before .before .before .before .before .before .before .before .before .before .before .before .pre .0) (c .before .before .before .before .before .before .before .before .before .before .before .before .before .before .before .args .v) (c .before .before .before .before .before .before .before .before .before .before .before .before .before .before .before .args .t7) (omega (arith, (c .before .before .before .before .before .before .before .before .before .if1 .left), (c .before .before .before .before .before .before .before .before .before .before .before .before .before .before .before .pre .1 .building .some))) refl _ (c .before .if2 .taken) (((c .before .before .before .find .ensures) _ (c .before .before .before .before .before .before .before .before .before .before .before .before .before .before .before .pre .0 .sound)) .at-is) (c .known .ensures)

@@ -8,7 +8,9 @@ use Rattle.making.proofs.undo.pop.Statement.{statement}
 use Rattle.making.proofs.undo.pop.Tie as tie
 
 scaled-requires : tie.Need-scaled-requires
-scaled-requires c κs = ((c .word3 .ensures .1), (c .before .before .before .before .before .before .before .before .before .before .before .before .before .before .pre .0 .allowed .some-nodes), (c .before .before .before .before .before .before .before .before .before .before .before .before .before .before .pre .0 .allowed .most-nodes))
+scaled-requires c κs =
+    let pre· = c .before .before .before .before .before .before .before .before .before .before .before .before .before .before .pre in
+    ((c .word3 .ensures .1), (pre· .0 .allowed .some-nodes), (pre· .0 .allowed .most-nodes))
 
 splice-requires : tie.Need-splice-requires
 splice-requires c κs = ((c .before .before .before .before .before .before .before .before .before .before .before .before .before .before .before .before .pre .0 .allowed .indexed), (c .before .before .before .before .before .before .before .before .before .before .before .before .before .before .before .before .pre .0 .allowed .most-nodes), (c .before .scaled .ensures .1), omega (arith, (c .before .before .before .before .before .before .before .before .before .before .before .before .before .before .before .before .pre .1), (c .before .before .before .before .before .before .before .before .before .before .before .before .before .before .before .before .pre .0 .sound .records .fits)), omega (arith, (c .before .before .before .before .word2 .ensures .0), prev-le (sound (c .before .before .before .before .before .before .before .before .before .before .before .before .before .before .before .before .pre .0) ((c .before .before .before .before .before .before .before .before .before .before .before .before .before .before .before .before .args .used .nodes) - 1) (omega (arith, (c .before .before .before .before .before .before .before .before .before .before .before .before .before .before .before .before .pre .1))))), omega (arith, (c .before .before .before .before .before .before .word .ensures .0), next-le (sound (c .before .before .before .before .before .before .before .before .before .before .before .before .before .before .before .before .pre .0) ((c .before .before .before .before .before .before .before .before .before .before .before .before .before .before .before .before .args .used .nodes) - 1) (omega (arith, (c .before .before .before .before .before .before .before .before .before .before .before .before .before .before .before .before .pre .1))))))
