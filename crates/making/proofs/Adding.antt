@@ -18,11 +18,11 @@ use Rattle.making.proofs.Grown.{indexed-grown, sound-grown, held-grown,
 use Rattle.making.specs.declared.chain.Spot.{Spot}
 use Rattle.making.specs.declared.edges.Edges as built
 use Rattle.making.specs.declared.nodes.Used.{Used}
-use Rattle.making.specs.Building.{childIn, nodeOf, hashIn, contentOf, Matches}
+use Rattle.making.specs.Building.{childIn, nodeOf, hashIn, contentOf}
 use Rattle.making.specs.Storing.{EdgesPut, RecordPut}
 use Rattle.making.specs.Outcome.{Lent, Buildable, Added, tableOf}
 use Rattle.making.proofs.Hashing.{hash-in-lt}
-use Rattle.making.proofs.Matching.{matches-node, hash-matches, bucket-matches, content-matches}
+use Rattle.making.proofs.Matching.{Matches, matches-node, hash-matches, bucket-matches, content-matches}
 use Rattle.making.proofs.Finding.{found-record}
 use Rattle.making.proofs.Stored.{cut-position-put, put-rules}
 use Rattle.making.proofs.Kept.{allowed-same}

@@ -25,10 +25,10 @@ use Rattle.making.specs.declared.chain.Front.{Front}
 use Rattle.making.specs.declared.chain.Spot.{Spot}
 use Rattle.making.specs.declared.edges.Edges as built
 use Rattle.making.specs.Building.{piecesOf, nodeOf, hashIn, contentOf}
-use Rattle.making.specs.Seeking.{Ordered, restAt, frontIn, frontOf, restIn, fronted, bucketOf, Low, High, Place, Passed, Sought, Finds}
+use Rattle.making.specs.Seeking.{Ordered, restAt, frontOf, restIn, fronted, bucketOf, Low, High, Place, Passed, Sought, Finds}
 use Rattle.making.proofs.Hashing.{hash-in-lt}
 use Rattle.making.proofs.Matching.{matches-node, node-matches, bucket-matches, content-matches, matches-content}
-use Rattle.making.proofs.Fronts.{content-front, front-count}
+use Rattle.making.proofs.Fronts.{frontIn, content-front, front-count}
 use Rattle.making.proofs.Walked.{walks-within, walks-stop}
 
 -- a sound table finds a node that it has at its number, and no other

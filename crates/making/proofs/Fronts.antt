@@ -17,7 +17,11 @@ use Rattle.table.specs.Indexed.{hashAt, keyAt}
 use Rattle.making.specs.declared.chain.Front.{Front}
 use Rattle.making.specs.declared.edges.Edges as built
 use Rattle.making.specs.Building.{childIn, cutIn, keyIn, zeroCut, hashIn, contentOf}
-use Rattle.making.specs.Seeking.{Ordered, edgeAt, frontAt, restAt, frontIn, frontOf, restIn, fronted}
+use Rattle.making.specs.Seeking.{Ordered, edgeAt, frontAt, restAt, frontOf, restIn, fronted}
+
+-- The front of a node under construction.
+abbrev pub frontIn : ℕ → ℕ → built.Edges → List ℕ
+frontIn v s es = v ∷ (es .len ∷ (under s (childIn es 0) ∷ (keyIn v es 0 ∷ (under s (childIn es 1) ∷ (keyIn v es 1 ∷ [])))))
 
 -- Two numbers.
 pub ordered-before : (x y : ℕ) → x < y → Ordered (x ∷ []) (y ∷ []) 0

@@ -16,9 +16,16 @@ use Rattle.table.proofs.Laws.{lt-or-le, mix-at-equal}
 use Rattle.table.proofs.Bridge.{kid-of, cut-of, edges-run, range-edges, bool-edges}
 use Rattle.table.proofs.Determined.{count-node, kid-node, cut-position-node, no-cut-last, no-cut-bool}
 use Rattle.making.specs.declared.edges.Edges as built
-use Rattle.making.specs.Building.{childIn, cutIn, piecesOf, nodeOf, keyIn, hashIn, contentOf, Matches}
+use Rattle.making.specs.Building.{childIn, cutIn, piecesOf, nodeOf, keyIn, hashIn, contentOf}
 use Rattle.making.proofs.Arrays.{kid-run, cut-run, bool-two, bool-cut}
 use Rattle.making.proofs.Hashing.{key-own, key-last, key-bool}
+
+-- Record n is this node.
+pub record Matches (st : Store) (n v s : ℕ) (es : built.Edges) : Type 0 where
+  pub variable : varAt (st .nodes) n ≡ v
+  pub count : countAt (st .nodes) n ≡ es .len
+  pub child : (j : ℕ) → j < es .len → kidAt (st .children) (firstAt (st .nodes) n + j) ≡ under s (childIn es j)
+  pub cut : (j : ℕ) → j < es .len → cutPosition (cutAt (st .cuts) (firstAt (st .nodes) n + j)) ≡ keyIn v es j
 
 -- the edges of the node under construction, by their numbers
 module _ (v s : ℕ) (es : built.Edges) where

@@ -27,11 +27,11 @@ use Rattle.making.specs.declared.edges.Edge.{Edge}
 use Rattle.making.specs.Building.{Building, none, childIn, cutIn, keyIn, piecesOf, zeroCut, hashIn, pairList, pairOf}
 use Rattle.making.specs.declared.chain.Front.{Front}
 use Rattle.making.specs.declared.chain.Spot.{Spot}
-use Rattle.making.specs.Seeking.{restAt, frontIn, restIn, frontOf, Sought, Seeks, Finds}
+use Rattle.making.specs.Seeking.{restAt, restIn, frontOf, Sought, Seeks, Finds}
 use Rattle.making.specs.Storing.{EdgesWritten, EdgesPut}
 use Rattle.making.specs.Outcome.{Buildable, create-pair}
 use Rattle.making.proofs.Hashing.{key-bool, hash-none, hash-next}
-use Rattle.making.proofs.Fronts.{run-ends}
+use Rattle.making.proofs.Fronts.{frontIn, run-ends}
 use Rattle.making.proofs.Finding.{find-none, find-same}
 use Rattle.making.proofs.Stores.{written-none, written-next}
 use Rattle.making.proofs.Stored.{bool-none}

@@ -12,7 +12,6 @@ use Rattle.diagram.specs.Pieces.{Pieces, run}
 use Rattle.diagram.specs.Table.{isRange, Node}
 use Rattle.diagram.specs.Cofactor.{map}
 use Rattle.diagram.specs.Room.{mostEdges}
-use Rattle.table.specs.Layout.{varAt, countAt, firstAt, kidAt, cutAt, cutPosition, Store}
 use Rattle.table.specs.Indexed.{mix}
 use Rattle.making.specs.declared.edges.Edge.{Edge}
 use Rattle.making.specs.declared.edges.Edges as built
@@ -64,10 +63,3 @@ pairList high low = set (set (replicate mostEdges none) 0 (record { cut = 1; chi
 
 abbrev pub pairOf : NodeId → NodeId → built.Edges
 pairOf high low = record { list = pairList high low; len = 2 }
-
--- Record n is this node.
-pub record Matches (st : Store) (n v s : ℕ) (es : built.Edges) : Type 0 where
-  pub variable : varAt (st .nodes) n ≡ v
-  pub count : countAt (st .nodes) n ≡ es .len
-  pub child : (j : ℕ) → j < es .len → kidAt (st .children) (firstAt (st .nodes) n + j) ≡ under s (childIn es j)
-  pub cut : (j : ℕ) → j < es .len → cutPosition (cutAt (st .cuts) (firstAt (st .nodes) n + j)) ≡ keyIn v es j

@@ -36,10 +36,7 @@ frontAt st n = varAt (st .nodes) n ∷ (countAt (st .nodes) n ∷ (edgeAt (st .c
 abbrev pub restAt : Store → ℕ → ℕ → List ℕ
 restAt st n count = run (λ j. kidAt (st .children) (firstAt (st .nodes) n + j)) (λ j. cutPosition (cutAt (st .cuts) (firstAt (st .nodes) n + j))) 2 (count - 2)
 
--- The same of a node under construction.
-abbrev pub frontIn : ℕ → ℕ → built.Edges → List ℕ
-frontIn v s es = v ∷ (es .len ∷ (under s (childIn es 0) ∷ (keyIn v es 0 ∷ (under s (childIn es 1) ∷ (keyIn v es 1 ∷ [])))))
-
+-- Those of a node under construction.
 abbrev pub restIn : ℕ → ℕ → built.Edges → List ℕ
 restIn v s es = run (λ j. under s (childIn es j)) (keyIn v es) 2 (es .len - 2)
 

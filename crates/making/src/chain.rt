@@ -80,7 +80,7 @@ fn edge_compared(children: &[u32], cuts: &[i64], i: usize, c: usize, k: usize) -
     compared(cut_position_at(cuts, i), k)
 }
 
-// How node n stands to one of hash h with this front.
+// How node n stands to one with this front, where the hashes of both are the same.
 fn front_compared(nodes: &[u32], children: &[u32], cuts: &[i64], n: usize, f: Front) -> usize
     requires { ⌜ (n * 4 + 4 ≤ length (now nodes)) × (length (now cuts) ≡ length (now children)) × (Rules (store (now nodes) (now children) (now cuts)) n) ⌝ }
     ensures { λ r. ⌜ Ordered (frontAt (store (now (nodes .entry)) (now (children .entry)) (now (cuts .entry))) n) (frontOf f) r ⌝ }
