@@ -20,7 +20,7 @@ abbrev μ-loop : tie.MeasureT-loop
 μ-loop nodes children cuts index h f from rooms before₀ at₀ before at = far (store nodes children cuts) at
 
 scaled-requires : tie.Need-scaled-requires Inv-loop μ-loop
-scaled-requires c κs = ((c .before .before .before .pre .1), (c .before .before .before .pre .0 .some-nodes), (c .before .before .before .pre .0 .most-nodes))
+scaled-requires c κs = (omega (arith, c .before .before .before .pre .1), c .before .before .before .pre .0 .some-nodes, c .before .before .before .pre .0 .most-nodes)
 
 lead-from-requires : tie.Need-lead-from-requires Inv-loop μ-loop
 lead-from-requires c κs =
