@@ -2,13 +2,17 @@
 // instructions with it. No test, but it asserts that all sides did the same work.
 extern crate lent;
 extern crate source;
+mod crafted;
+mod families;
 mod kernel;
 mod shim;
 mod sides;
 mod source_sides;
 mod tables;
 mod workloads;
-use kernel::{Below, Kernel, Public, Stripped, Walk};
+#[cfg(not(stripped))]
+use kernel::{Below, Public, Walk};
+use kernel::{Kernel, Stripped};
 use sides::{Ask, Player, State, Work};
 use source_sides::{Changed, Plain};
 use std::time::{Duration, Instant};
@@ -17,41 +21,52 @@ use tables::{lay, random, Rng};
 /// At least so many rounds.
 const ROUNDS: usize = 51;
 
+/// But no line goes on for longer, so that a call that became slow shows itself.
+const LONGEST: f64 = 30.0;
+
 /// Whole calls check the whole table each time, and are timed in the first rounds only.
 const PUBLIC_ROUNDS: usize = 9;
 
 const HEAD: &str = "\
 Nanoseconds a call, less what timing takes: median and least of the rounds. The sides take turns in each round, and a ratio is the median
 of the rounds' ratios, the Rust's time by the other's: above 1 the kernel is quicker. `leasts` is the ratio of the least times of the Rust
-and `below`, which a busy machine disturbs less where a round is long.
+and `below`, or `stripped` where rt compiled nothing; a busy machine disturbs it less where a round is long.
   rust      the test Rust with its own crates: the source as it is; for widening, which breaks the order there, document 01's form
-  below     the kernel as rt compiled it, below the checks of a call, its memo zeroed at both ends of a call
+  below     the kernel as rt compiled it, below the checks of a call: its memo is zero before, and what was used of it is cleared
   stripped  the same source without contracts, through rustc
-  walk      `and` and `or` with no memo zeroed
-  public    the whole call, with its check of the table
+  walk      `and` and `or` with no memo cleared
+  public    the whole call, with its check of the table and the pass that zeroes the memo
 `fresh 64` is an empty table with room for 64 nodes, `kept 4096` one with room for 4,096 and 2,000 in it. `new`: the calls make their nodes.
 `there`: the nodes are there, and no side knows that they were asked for. `again`: the same calls a second time, where the Rust's cache
 answers at once; the kernel keeps none between calls (document 01: the memo is zeroed), and only the walk has its memo still.
+Lines 9 are pairs of conditions that ask much of a memo, where not said otherwise in a table that is full. `alone`: the Rust would take hours.
 What stands before a round is restored outside the time: the kernel's table is copied back; the Rust's interner is built again with the same
 nodes and an empty cache. Its maps grow inside the time on a fresh table; on a kept one they have room. Its lock, which its callers take for
 each call, is taken once a round.";
 
 /// The sides of a line; the Rust is first.
+#[cfg(not(stripped))]
 const SIDES: [&str; 5] = ["rust", "below", "stripped", "walk", "public"];
+#[cfg(stripped)]
+const SIDES: [&str; 2] = ["rust", "stripped"];
 
 fn state(side: &str) -> Box<dyn State> {
     match side {
         "rust" => Box::new(Plain::default()),
         "changed" => Box::new(Changed::default()),
+        #[cfg(not(stripped))]
         "below" => Box::new(Kernel::<Below>::new()),
         "stripped" => Box::new(Kernel::<Stripped>::new()),
+        #[cfg(not(stripped))]
         "walk" => Box::new(Kernel::<Walk>::new()),
+        #[cfg(not(stripped))]
         "public" => Box::new(Kernel::<Public>::new()),
         other => panic!("no side {}", other),
     }
 }
 
-/// The sides that a workload is timed on: only `and` and `or` have a walk, and for widening the Rust is document 01's form.
+/// The sides that a workload is timed on: only `and` and `or` have a walk, for widening the Rust is document 01's form, and some are the
+/// kernel's alone.
 fn players(work: &Work) -> Vec<Player> {
     let joins = matches!(work.asks[0], Ask::And(..) | Ask::Or(..));
     let widens = matches!(work.asks[0], Ask::Widen(..));
@@ -59,7 +74,11 @@ fn players(work: &Work) -> Vec<Player> {
         "rust" if widens => "changed",
         side => side,
     };
-    let sides = SIDES.iter().filter(|side| joins || **side != "walk");
+    let sides = SIDES.iter().filter(|side| match **side {
+        "rust" => !work.alone,
+        "walk" => joins,
+        _ => true,
+    });
     sides
         .map(|side| Player::prepared(side, state(form(side)), work))
         .collect()
@@ -77,9 +96,11 @@ fn readings() -> Vec<(Vec<i64>, u32)> {
 }
 
 /// One round of each side, not timed: all sides of the kernel give the ids of the Rust in document 01's form and leave its nodes; and the
-/// Rust that is timed says the same as that under readings. Returns how many nodes the calls make.
+/// Rust that is timed says the same as that under readings. Where the kernel is alone, its sides give the same. Returns how many nodes the
+/// calls make.
 fn agree(work: &Work, players: &mut [Player]) -> usize {
-    let mut judge = Player::prepared("changed", state("changed"), work);
+    let judged = if work.alone { "stripped" } else { "changed" };
+    let mut judge = Player::prepared("judge", state(judged), work);
     let before = judge.state.nodes().len();
     judge.round(work);
     let nodes = judge.state.nodes();
@@ -127,7 +148,11 @@ fn rounds(work: &Work, players: &mut [Player], seconds: f64) -> Vec<Vec<f64>> {
     let (idle, calls) = (idle(), work.asks.len() as f64);
     let mut times = vec![vec![]; players.len()];
     let start = Instant::now();
-    while times[0].len() < ROUNDS || start.elapsed().as_secs_f64() < seconds {
+    let more = |rounds: usize| match start.elapsed().as_secs_f64() {
+        time if time < seconds => true,
+        time => rounds == 0 || rounds < ROUNDS && time < LONGEST,
+    };
+    while more(times[0].len()) {
         for (player, list) in players.iter_mut().zip(&mut times) {
             if player.name == "public" && list.len() == PUBLIC_ROUNDS {
                 continue;
@@ -139,33 +164,37 @@ fn rounds(work: &Work, players: &mut [Player], seconds: f64) -> Vec<Vec<f64>> {
     times
 }
 
-/// A workload's line.
+/// A workload's line. A side that is not timed has dashes.
 fn line(work: &Work, seconds: f64) {
     let mut players = players(work);
     let made = agree(work, &mut players);
     let mut times = rounds(work, &mut players, seconds);
-    let rust = times[0].clone();
+    let of = |side: &str| players.iter().position(|player| player.name == side);
+    let rust: Vec<f64> = of("rust").map_or(vec![], |at| times[at].clone());
+    let rounds = times[0].len();
     print!("{:46} {:5} {:5}", work.name, work.asks.len(), made);
     let (mut ratios, mut leasts) = (String::new(), vec![]);
     for side in SIDES {
-        let at = players.iter().position(|player| player.name == side);
-        let list = match at {
-            Some(at) => &mut times[at],
-            None => {
-                print!(" {:>9} {:>9}", "-", "-");
-                ratios += &format!("{:>10}", "-");
-                continue;
+        let mut ratio: Vec<f64> = vec![];
+        match of(side) {
+            Some(at) => {
+                ratio.extend(rust.iter().zip(&times[at]).map(|(r, t)| r / t));
+                print!(" {:9.0} {:9.0}", median(&mut times[at]), times[at][0]);
+                leasts.push(times[at][0]);
             }
-        };
-        let mut ratio: Vec<f64> = rust.iter().zip(&*list).map(|(r, t)| r / t).collect();
-        print!(" {:9.0} {:9.0}", median(list), list[0]);
-        leasts.push(list[0]);
-        if side != "rust" {
+            None => print!(" {:>9} {:>9}", "-", "-"),
+        }
+        if side != "rust" && ratio.is_empty() {
+            ratios += &format!("{:>10}", "-");
+        } else if side != "rust" {
             ratios += &format!("{:10.2}", median(&mut ratio));
         }
     }
-    let rounds = rust.len();
-    println!("{} {:9.2} {:7}", ratios, leasts[0] / leasts[1], rounds);
+    let least = match rust.is_empty() {
+        true => "-".into(),
+        false => format!("{:.2}", leasts[0] / leasts[1]),
+    };
+    println!("{} {:>9} {:7}", ratios, least, rounds);
 }
 
 /// 8: one check of a full table. The Rust has nothing to set beside it.

@@ -1,113 +1,15 @@
 // The speed of the check of a lent table, on full tables, small ones, empty ones, and tables built to be slow; against.rs has that of the
 // operations. bench/run runs it.
+mod crafted;
 mod shim;
 mod tables;
 #[cfg(stripped)]
 extern crate lent;
+use crafted::{one_bucket, one_hash, Spread};
 use shim::check;
-use std::collections::{HashMap, HashSet};
+use std::collections::HashMap;
 use std::time::{Duration, Instant};
 use tables::*;
-
-// The cuts that, as last cut of this prefix and before this last child, bring a node of `room` into bucket b, above `low`: the i-th found.
-struct Solver {
-    inv: u64,
-    room: u64,
-    b: u64,
-    t: u64,
-}
-impl Solver {
-    fn new(room: usize, b: u64) -> Solver {
-        let room = room as u64;
-        Solver {
-            inv: inv_a(),
-            room,
-            b,
-            t: 0,
-        }
-    }
-    fn cut(&mut self, h: u64, c: u32, last: u32, low: u64) -> Option<i64> {
-        // hash = (h2 * A + last * B + ZERO) mod M = t, h2 = (h * A + c * B + x) mod M
-        let lo = (self.b * M + self.room - 1) / self.room;
-        let hi = ((self.b + 1) * M + self.room - 1) / self.room;
-        for _ in 0..1000000u32 {
-            let t = lo + self.t % (hi - lo);
-            let high = (self.t / (hi - lo)) % 2;
-            self.t += 1;
-            let h2 = (t + M - (last as u64 * B + ZERO) % M) % M * self.inv % M;
-            let mut x = (h2 + M - (h * A + c as u64 * B) % M) % M + high * M;
-            if x == 0 {
-                x = 2 * M;
-            }
-            if x > low && x <= 2 * M {
-                return Some(x as i64 - ZERO as i64);
-            }
-            if high == 0 && x + M > low && x + M <= 2 * M {
-                return Some((x + M) as i64 - ZERO as i64);
-            }
-        }
-        None
-    }
-}
-
-// Spread of the worst cases: how many values each place of a record may have, before the last cut, which is solved for.
-#[derive(Clone, Default)]
-struct Spread {
-    vars: usize,
-    counts: Vec<usize>,
-    cut: Vec<usize>,
-}
-
-// many nodes in one bucket of `room`; records agree but for the spread, and the last cut.
-fn one_bucket(seed: u64, many: usize, room: usize, sp: &Spread) -> Vec<Node> {
-    let mut r = Rng(seed);
-    let mut s = Solver::new(room, room as u64 / 2);
-    let mut seen = HashSet::new();
-    let mut list = vec![];
-    for n in 0..many {
-        let count = sp.counts[if sp.counts.len() > 1 {
-            r.below(sp.counts.len())
-        } else {
-            0
-        }];
-        let _ = n;
-        let var = if sp.vars > 1 {
-            r.below(sp.vars) as u32
-        } else {
-            0
-        };
-        let kids: Vec<u32> = (0..count).map(|j| j as u32 % 2).collect();
-        let mut h = var as u64;
-        let mut low = 0u64;
-        let mut cuts: Vec<i64> = vec![];
-        for j in 0..count.saturating_sub(2) {
-            let w = *sp.cut.get(j).unwrap_or(&1);
-            let x = 1 + 10000 * j as u64 + r.below(w) as u64;
-            h = mix(h, kids[j], x);
-            low = x;
-            cuts.push(x as i64 - ZERO as i64);
-        }
-        loop {
-            let z = s
-                .cut(h, kids[count - 2], kids[count - 1], low)
-                .expect("a cut");
-            let mut c = cuts.clone();
-            c.push(z);
-            c.push(0);
-            let x = Node {
-                var,
-                kids: kids.clone(),
-                cuts: c,
-            };
-            assert_eq!(hash(&x) * room as u64 / M, room as u64 / 2);
-            if seen.insert(x.clone()) {
-                list.push(x);
-                break;
-            }
-        }
-    }
-    list
-}
 
 fn time(name: &str, t: &Table, want: u32, secs: f64) {
     let (n, c, z, i) = (&t.nodes[..], &t.children[..], &t.cuts[..], &t.index[..]);
@@ -311,6 +213,17 @@ fn main() {
         if vars == 2 && counts == [4] && cut == [2, 2] {
             fuzzy = Some(t);
         }
+    }
+
+    // the hash says nothing of these: only their edges tell them apart
+    for count in [4, 8, 16, 64] {
+        let many = (er / count).min(room);
+        let t = lay(&one_hash(many, room, count), room, er);
+        go(
+            &format!("d3 one hash, {many} x {count}, differ in two cuts"),
+            &t,
+            0,
+        );
     }
 
     // (e) unsound

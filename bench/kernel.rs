@@ -9,7 +9,7 @@ use std::ops::Bound;
 use std::time::Duration;
 
 /// Below the checks, as rt compiled it; the same through rustc; whole calls, each with its check of the table; and `and` and `or` with no
-/// memo zeroed, so that it stays for the next call.
+/// memo cleared, so that it stays for the next call.
 pub struct Below;
 pub struct Stripped;
 pub struct Public;
@@ -19,7 +19,7 @@ pub struct Walk;
 /// call finds them itself.
 pub struct Lent<Calls> {
     table: Table,
-    memo: Vec<u32>,
+    memo: Vec<u64>,
     calls: PhantomData<Calls>,
 }
 
@@ -205,7 +205,8 @@ where
 {
     fn begin(&mut self, base: &[Node], room: (usize, usize)) {
         self.lent.table = lay(base, room.0, room.1);
-        self.lent.memo = vec![0; room.0 * 3];
+        // the most that may be lent: a set of eight words a record
+        self.lent.memo = vec![0; room.0 * 8];
     }
 
     fn put(&mut self, asks: &[Ask], answers: &mut Vec<u32>) -> Duration {
@@ -219,7 +220,7 @@ where
         self.kept = self.lent.table.clone();
     }
 
-    /// In the same memory. The memo is zero, as a call leaves it.
+    /// In the same memory. The memo is zero, as a call leaves it and as one below the checks asks it.
     fn restore(&mut self) {
         let (to, from) = (&mut self.lent.table, &self.kept);
         to.nodes.copy_from_slice(&from.nodes);

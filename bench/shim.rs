@@ -8,11 +8,11 @@ macro_rules! exports {
      $(below $inner:ident($($scratch:ident)?; $($x:ident: $t:ty),*);)*) => {
         extern "C" {
             $(pub fn $name(
-                nodes: &mut [u32], children: &mut [u32], cuts: &mut [i64], index: &mut [u32], $($memo: &mut [u32],)?
+                nodes: &mut [u32], children: &mut [u32], cuts: &mut [i64], index: &mut [u32], $($memo: &mut [u64],)?
                 $($arg: $of,)* id: &mut u32,
             ) -> u32;)*
             $(pub fn $inner(
-                nodes: &mut [u32], children: &mut [u32], cuts: &mut [i64], index: &mut [u32], $($scratch: &mut [u32],)?
+                nodes: &mut [u32], children: &mut [u32], cuts: &mut [i64], index: &mut [u32], $($scratch: &mut [u64],)?
                 used: usize, edges: usize, $($x: $t,)* id: &mut u32, used_now: &mut usize, edges_now: &mut usize,
             ) -> bool;)*
         }
@@ -50,7 +50,7 @@ pub unsafe fn bare_or(
     children: &mut [u32],
     cuts: &mut [i64],
     index: &mut [u32],
-    memo: &mut [u32],
+    memo: &mut [u64],
     used: usize,
     edges: usize,
     x: u32,
@@ -67,9 +67,9 @@ pub unsafe fn bare_or(
     ok
 }
 
-// `bench/run rust` times the check of the stripped source, and the others that of the archive.
+// Where nothing is linked that rt compiled, these two are the stripped source's.
 #[cfg(stripped)]
-use lent::spanwhistle::tables::spanwhistle_check;
+pub use lent::spanwhistle::tables::{spanwhistle_check, spanwhistle_evaluate};
 
 extern "C" {
     #[cfg(not(stripped))]
@@ -81,6 +81,7 @@ extern "C" {
         used: &mut usize,
         edges: &mut usize,
     ) -> u32;
+    #[cfg(not(stripped))]
     pub fn spanwhistle_evaluate(
         nodes: &[u32],
         children: &[u32],

@@ -104,6 +104,8 @@ pub struct Work {
     /// The timed calls.
     pub asks: Vec<Ask>,
     pub kept: Kept,
+    /// The Rust, which has no memo for it, would take hours: only the kernel is timed.
+    pub alone: bool,
 }
 
 /// What a side keeps, and what it goes back to.

@@ -1,10 +1,14 @@
 // The workloads, each written once for all sides.
+use crate::crafted::{one_bucket, Spread};
+use crate::families::{both_differ, sums, wide_sums, Pair};
 use crate::sides::{Arg, Ask, Ends, Kept, Work};
 use crate::tables::{random, Node, Rng};
 use std::ops::Bound::{Excluded, Included, Unbounded};
 
 /// Operators by their numbers.
 const EQ: u32 = 0;
+const LT: u32 = 2;
+const LE: u32 = 3;
 const GE: u32 = 5;
 
 /// The first boolean variable.
@@ -75,6 +79,8 @@ pub fn all(filter: &str) -> Vec<Work> {
     }
     list.append(&mut counts());
     list.append(&mut exclusive());
+    list.push(one_chain());
+    list.append(&mut families());
     // by their numbers; those of one number stay in order
     list.sort_by(|a, b| a.name[..2].cmp(&b.name[..2]));
     list.retain(|work| work.name.starts_with(filter));
@@ -167,6 +173,7 @@ impl Place {
                 before: before.asks.clone(),
                 asks: asks.asks.clone(),
                 kept: *kept,
+                alone: false,
             });
         }
     }
@@ -332,4 +339,102 @@ fn exclusive() -> Vec<Work> {
         place.add(&name, &before, &asks, &TWO);
     }
     place.works
+}
+
+/// 1: comparisons that are there, among many of the same variable in one bucket of the index.
+fn one_chain() -> Work {
+    let (room, many) = (4096, 2000);
+    let spread = Spread {
+        vars: 1,
+        counts: vec![2],
+        cut: vec![],
+    };
+    let base = one_bucket(4, many, room, &spread);
+    // below an even cut lie the numbers less than its half, below an odd one those up to it
+    let ask = |node: &Node| match node.cuts[0].rem_euclid(2) {
+        0 => Ask::Compare(0, LT, node.cuts[0].div_euclid(2) as i32),
+        _ => Ask::Compare(0, LE, node.cuts[0].div_euclid(2) as i32),
+    };
+    Work {
+        name: "1d comparisons, one bucket, there".into(),
+        room: (room, room * 4),
+        asks: base.iter().take(1000).map(ask).collect(),
+        base,
+        before: vec![],
+        kept: Kept::Nodes,
+        alone: false,
+    }
+}
+
+/// A pair of a family as base, with so much room for each node, and one call about it.
+fn family(name: &str, pair: Pair, rooms: usize, ask: fn(Arg, Arg) -> Ask) -> Work {
+    // ids of the base count from 2 up, answers from 0
+    let (x, y) = (Arg(pair.x - 2), Arg(pair.y - 2));
+    let edges: usize = pair.nodes.iter().map(|node| node.kids.len()).sum();
+    Work {
+        name: name.into(),
+        room: (pair.nodes.len() * rooms, edges * rooms),
+        base: pair.nodes,
+        before: vec![],
+        asks: vec![ask(x, y)],
+        kept: Kept::Operands,
+        alone: false,
+    }
+}
+
+/// 9: what asks much of a memo. The first three are those that took seconds when it had one entry a record.
+fn families() -> Vec<Work> {
+    let and = |name, pair| family(name, pair, 1, Ask::And);
+    let alone = |work| Work {
+        alone: true,
+        ..work
+    };
+    let mut list = vec![
+        and("9a and, mod 3 of 7 ranges x 64", wide_sums(3, 7, 64)),
+        and("9a and, mod 9 of 40", sums(9, 40)),
+        and("9a and, mod 38 of 46, room 4096", sums(38, 46)),
+        and("9a and, mod 64 of 40", sums(64, 40)),
+        and("9a and, mod 16 of 7 ranges x 64", wide_sums(16, 7, 64)),
+        family(
+            "9b disjoint, 15 pairs of neighbours",
+            both_differ(15),
+            1,
+            Ask::Disjoint,
+        ),
+        alone(family(
+            "9b disjoint, 31 pairs of neighbours, alone",
+            both_differ(31),
+            1,
+            Ask::Disjoint,
+        )),
+    ];
+    list[2].room = (4096, 16384);
+    // restriction at the last variable, narrowing and widening at the last range
+    let restrict = |x, _| Ask::Restrict(x, SWITCH + 31, true);
+    let narrow = |x, _| Ask::Narrow(x, SWITCH - 1, CUTTING[0]);
+    let widen = |x, _| Ask::Widen(x, SWITCH - 1, CUTTING[0]);
+    list.extend([
+        family("9c restriction, mod 9 of 14", sums(9, 14), 3, restrict),
+        alone(family(
+            "9c restriction, mod 9 of 40, alone",
+            sums(9, 40),
+            3,
+            restrict,
+        )),
+        family("9d narrowing, mod 9 of 44", sums(9, 44), 3, narrow),
+        alone(family(
+            "9d narrowing, mod 9 of 63, alone",
+            sums(9, 63),
+            3,
+            narrow,
+        )),
+        family("9e widening, mod 9 of 44", sums(9, 44), 3, widen),
+        alone(family(
+            "9e widening, mod 9 of 63, alone",
+            sums(9, 63),
+            3,
+            widen,
+        )),
+    ]);
+    list
 }
