@@ -234,28 +234,30 @@ fn main() {
     let b = (0..room).find(|b| t.index[*b] == 0).unwrap();
     t.index[b] = 1;
     go("e2 a1, an empty bucket's head 1", &t, 2);
-    let mut t = a1.clone();
-    let k = t.index.len();
-    t.index[k - 1] = 4095 - (t.index[k - 1] == 4095) as u32;
-    go("e3 a1, last next changed", &t, 2);
-    // wrong index: one chain through all nodes, every head its end: each record passes, only the tally fails
+    // another node, none of its bucket, or another hash
+    for (part, name) in [(2, "next"), (3, "one before"), (4, "hash")] {
+        let mut t = a1.clone();
+        let word = &mut t.index[part * room - 1];
+        *word = 4095 - (*word == 4095) as u32;
+        go(&format!("e3 a1, last {name} changed"), &t, 2);
+    }
+    // wrong index: one chain through all nodes, every head its first, the hashes right
     let chain = |t: &Table| {
         let mut t = t.clone();
-        for b in 0..room {
-            t.index[b] = t.used as u32;
-        }
-        for n in 0..t.used {
-            t.index[room + n] = n as u32;
+        t.index[..room].fill(1);
+        for n in 0..room {
+            t.index[room + n] = (n as u32 + 2) % (room as u32 + 1);
+            t.index[room * 2 + n] = n as u32;
         }
         t
     };
     go(
-        "e4 a1, one chain through all, every head its end",
+        "e4 a1, one chain through all, every head its first",
         &chain(&a1),
         2,
     );
     go(
-        "e4 a2, one chain through all, every head its end",
+        "e4 a2, one chain through all, every head its first",
         &chain(&a2),
         2,
     );
@@ -286,4 +288,7 @@ fn main() {
     let mut t = lay(&[], room, er);
     t.index[room - 1] = 1;
     go("e8 fresh, last head 1", &t, 2);
+    let mut t = lay(&[], room, er);
+    t.index[room * 4 - 1] = 1;
+    go("e8 fresh, last hash 1", &t, 2);
 }
