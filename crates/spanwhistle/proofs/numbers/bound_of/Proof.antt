@@ -17,10 +17,10 @@ excludes (suc zero) key f g = absurd (g refl)
 excludes (suc (suc k)) key f g = refl
 
 returns-2 : tie.Need-returns-2
-returns-2 c = rw (toZ-ofZ w32 _ (@fits .key), @if2 .taken) refl
+returns-2 c = rw (toZ-ofZ w32 _ (c .before .before .fits .key), c .if2 .taken) refl
 
 returns-3 : tie.Need-returns-3
-returns-3 c = rw (toZ-ofZ w32 _ (@fits .key)) (excludes _ _ (@if1 .left) (@if2 .left))
+returns-3 c = rw (toZ-ofZ w32 _ (c .before .before .fits .key)) (excludes _ _ (c .before .if1 .left) (c .if2 .left))
 
 pub bound-of-spec : {M : Type 1} → statement M
 bound-of-spec = tie.close (tie.spec (λ c. search needs) returns-2 returns-3)

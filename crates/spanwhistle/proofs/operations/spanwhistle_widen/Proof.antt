@@ -7,8 +7,8 @@ use Rattle.spanwhistle.proofs.operations.spanwhistle_widen.Tie as tie
 
 returns : tie.Need-returns
 returns c =
-    let fits· = @fits in
-    rw ((@bound-of .ensures), (@bound-of2 .ensures), toZ-ofZ w32 _ (fits· .lower-key), toZ-ofZ w32 _ (fits· .upper-key)) at (@widen .ensures)
+    let fits· = c .before .before .before .before .before .before .before .before .before .before .before .before .before .before .before .before .before .before .before .before .before .fits in
+    rw ((c .before .before .before .before .before .before .before .before .before .before .before .before .before .before .before .before .bound-of .ensures), (c .before .before .before .before .before .before .before .before .before .before .before .before .before .before .before .bound-of2 .ensures), toZ-ofZ w32 _ (fits· .lower-key), toZ-ofZ w32 _ (fits· .upper-key)) at (c .before .before .before .before .before .before .before .before .before .widen .ensures)
 
 pub spanwhistle-widen-spec : {M : Type 1} → statement M
 spanwhistle-widen-spec = tie.close (tie.spec (λ c κs. search needs) (λ c κs. search needs) (λ c κs. search needs) (λ c. search needs) (λ c. search needs) (λ c. search needs) (λ c. search needs) (λ c. search needs) returns)
