@@ -1,7 +1,8 @@
 -- The opening tests, and the way down from two ids that they leave. Assumes nothing.
 use mathlib.Core.Path.{_≡_, refl, sym, _∙_, ap₂}
-use mathlib.Core.Bool.{Bool, true, false, _&&_, _||_, true≢false}
+use mathlib.Core.Bool.{Bool, true, false, _&&_, _||_, true≢false, false≢true}
 use mathlib.Core.List.{List}
+use mathlib.Core.Logic.{_⊎_, inl, inr}
 use Prim.Native.Nat.{ℕ, zero, suc, _*_, _-_, _≤_, _<_, min}
 use native.Mathlib.Omega.{arith}
 use borrow.Author.Tests.{lt-ltb, le-ltb, eqb-false}
@@ -20,7 +21,7 @@ use Rattle.memo.proofs.Recalled.{hit-was-noted, noted-true}
 use Rattle.views.specs.Seeing.{usedIn, Readable, seen, Sees, Views}
 use Rattle.views.specs.declared.View.{View}
 use Rattle.views.proofs.Sights.{seen-range, seen-bool, views-rising, views-kids, views-inside, bool-count-le-two, known-held, known-used, record-inside, first-variable-is, sees-views, call-left}
-use Rattle.disjointness.specs.Asking.{whole, apart, Excluding, AskedIn, AskedPair, AskedSides, Answers}
+use Rattle.disjointness.specs.Asking.{whole, apart, Excluding, AskedIn, Listed, AskedPair, AskedSides}
 use Rattle.table.specs.Layout.{varAt, Store}
 
 -- what they ask
@@ -58,6 +59,16 @@ no-terminal-right x y o g =
     let i = neither-true (eqb y 1) (eqb (flip x) y) (neither-true (eqb x 1) (eqb y 1 || eqb (flip x) y) o .1) in
     let j = neither-true (eqb y 0) (eqb x y) (neither-true (eqb x 0) (eqb y 0 || eqb x y) g .1) in
     omega (arith, eqb-false y 1 (i .0), eqb-false y 0 (j .0))
+
+-- a no without a rest is no answer
+pub gave-up : {A : Type 0} {k : ℕ} → k ≡ 0 → (_≡_ {A = Bool} false true) ⊎ (1 ≤ k) → A
+gave-up e (inl h) = absurd (false≢true h)
+gave-up e (inr h) = absurd (omega arith)
+
+-- and beside a rest any is one
+pub sure-no : {b : Bool} {k : ℕ} → (_≡_ {A = Bool} false true) ⊎ (1 ≤ k) → (b ≡ true) ⊎ (1 ≤ k)
+sure-no (inl h) = absurd (false≢true h)
+sure-no (inr h) = inr h
 
 -- what holds of two ids holds of them in order
 pub in-order : (P : ℕ → Type 0) {x y f g : ℕ} → Ordered x y f g → P x → P y → P f × P g
@@ -109,11 +120,11 @@ module _ {st : Store} {noted : List ℕ} {n x y : ℕ} (q : AskedPair st noted n
   answer : Answer t x y (disjoint n t x y)
   answer = answered n t (r .sound) (min ((at t (ref x)) .var) ((at t (ref y)) .var)) x y (known-held st u x (q .left .known), omega arith) (known-held st u y (q .right .known), omega arith) (omega (arith, q .left .ahead, q .right .ahead))
 
-  pub opening-yes : {p : Bool} → p ≡ Opposed x y → p ≡ true → Answers st noted (disjoint n t x y) true
-  opening-yes e h = record { right = disjoint-yes t x y n some-ahead (sym e ∙ h); listed = q .listed }
+  pub opening-yes : {p : Bool} → p ≡ Opposed x y → p ≡ true → true ≡ disjoint n t x y
+  opening-yes e h = disjoint-yes t x y n some-ahead (sym e ∙ h)
 
-  pub opening-no : {p g : Bool} → p ≡ Opposed x y → p ≡ false → g ≡ Agreeing x y → g ≡ true → Answers st noted (disjoint n t x y) false
-  opening-no d o e h = record { right = disjoint-no t x y n some-ahead (sym d ∙ o) (sym e ∙ h); listed = q .listed }
+  pub opening-no : {p g : Bool} → p ≡ Opposed x y → p ≡ false → g ≡ Agreeing x y → g ≡ true → false ≡ disjoint n t x y
+  opening-no d o e h = disjoint-no t x y n some-ahead (sym d ∙ o) (sym e ∙ h)
 
   -- the pair in order has ids that an entry has room for
   module _ {f g : ℕ} (w : Ordered x y f g) where
@@ -121,22 +132,15 @@ module _ {st : Store} {noted : List ℕ} {n x y : ℕ} (q : AskedPair st noted n
     ids-small = in-order (λ z. z < ids) w (omega (arith, r .small, q .left .known)) (omega (arith, r .small, q .right .known))
 
     -- a pair that was noted
-    pub recalled-yes : {z : ℕ} → 2 ≤ x → 2 ≤ y → Hit noted f g z → Answers st noted (disjoint n t x y) true
-    recalled-yes {z} hx hy h = record {
-      right = excluding-yes z answer (excluding-given t x y f g z w (hit-was-noted (q .listed .pairs) (omega (arith, in-order (λ z. 2 ≤ z) w hx hy .0)) h));
-      listed = q .listed;
-    }
+    pub recalled-yes : {z : ℕ} → 2 ≤ x → 2 ≤ y → Hit noted f g z → true ≡ disjoint n t x y
+    recalled-yes {z} hx hy h = excluding-yes z answer (excluding-given t x y f g z w (hit-was-noted (q .listed .pairs) (omega (arith, in-order (λ z. 2 ≤ z) w hx hy .0)) h))
 
     -- a pair that is noted now
-    pub noted-yes : {noted′ noted″ : List ℕ} {z : ℕ} {yes : Bool} → Answers st noted′ (disjoint n t x y) yes → yes ≡ true → Noted noted′ f g z noted″ → Answers st noted″ (disjoint n t x y) yes
-    noted-yes {noted′} {noted″} {z} a h o = record {
-      right = a .right;
-      listed = record {
-        readable = r;
-        long = omega (arith, o .long, a .listed .long);
-        most = omega (arith, o .long, a .listed .most);
-        pairs = noted-true (a .listed .pairs) (excluding-ordered t x y f g z w (answer-yes answer (sym (a .right) ∙ h))) o;
-      };
+    pub noted-listed : {noted′ noted″ : List ℕ} {z : ℕ} → Listed st noted′ → true ≡ disjoint n t x y → Noted noted′ f g z noted″ → Listed st noted″
+    noted-listed {z = z} l h o = record {
+      readable = r;
+      most = omega (arith, o .long, l .most);
+      pairs = noted-true (l .pairs) (excluding-ordered t x y f g z w (answer-yes answer (sym h))) o;
     }
 
   module _ {p g : Bool} (d : p ≡ Opposed x y) (o : p ≡ false) (e : g ≡ Agreeing x y) (h : g ≡ false) where
@@ -182,11 +186,8 @@ module _ {st : Store} {noted : List ℕ} {n x y : ℕ} (q : AskedPair st noted n
       }
 
       -- whose answer is that of the ids
-      pub sides-answer : {noted′ : List ℕ} {z : Bool} → Answers st noted′ (apart (n - 1) t (seen (st .children) (st .cuts) v a 0) (seen (st .children) (st .cuts) v b 0)) z → Answers st noted′ (disjoint n t x y) z
-      sides-answer i = record {
-        right = i .right ∙ sym (disjoint-apart t x y n some-ahead (sym d ∙ o) (sym e ∙ h) v ev ∙ ap₂ (apart (n - 1) t) (sym (va .edges)) (sym (vb .edges)));
-        listed = i .listed;
-      }
+      pub sides-answer : {z : Bool} → z ≡ apart (n - 1) t (seen (st .children) (st .cuts) v a 0) (seen (st .children) (st .cuts) v b 0) → z ≡ disjoint n t x y
+      sides-answer i = i ∙ sym (disjoint-apart t x y n some-ahead (sym d ∙ o) (sym e ∙ h) v ev ∙ ap₂ (apart (n - 1) t) (sym (va .edges)) (sym (vb .edges)))
 
 -- two views at a variable that stands for its kind
 module _ {st : Store} {noted : List ℕ} {v n : ℕ} {a b : View} (s : AskedSides st noted v n a b) where
@@ -203,17 +204,17 @@ module _ {st : Store} {noted : List ℕ} {v n : ℕ} {a b : View} (s : AskedSide
       two-edges = λ h. s .two-edges (kind h);
     }
 
-    kind-answer : {noted′ : List ℕ} {z : Bool} → Answers st noted′ (apart n (whole st) (seen (st .children) (st .cuts) k a 0) (seen (st .children) (st .cuts) k b 0)) z → Answers st noted′ (apart n (whole st) (seen (st .children) (st .cuts) v a 0) (seen (st .children) (st .cuts) v b 0)) z
-    kind-answer i = record { right = i .right ∙ sym (ap₂ (apart n (whole st)) (same a) (same b)); listed = i .listed }
+    kind-answer : {z : Bool} → z ≡ apart n (whole st) (seen (st .children) (st .cuts) k a 0) (seen (st .children) (st .cuts) k b 0) → z ≡ apart n (whole st) (seen (st .children) (st .cuts) v a 0) (seen (st .children) (st .cuts) v b 0)
+    kind-answer i = i ∙ sym (ap₂ (apart n (whole st)) (same a) (same b))
 
   pub range-sides : v < firstBoolean → AskedSides st noted 0 n a b
   range-sides h = at-kind 0 (rw (lt-ltb v 32 h)) (λ w. seen-range (st .children) (st .cuts) v w 0 h) (λ k. absurd (omega arith))
 
-  pub range-answer : v < firstBoolean → {noted′ : List ℕ} {z : Bool} → Answers st noted′ (apart n (whole st) (seen (st .children) (st .cuts) 0 a 0) (seen (st .children) (st .cuts) 0 b 0)) z → Answers st noted′ (apart n (whole st) (seen (st .children) (st .cuts) v a 0) (seen (st .children) (st .cuts) v b 0)) z
+  pub range-answer : v < firstBoolean → {z : Bool} → z ≡ apart n (whole st) (seen (st .children) (st .cuts) 0 a 0) (seen (st .children) (st .cuts) 0 b 0) → z ≡ apart n (whole st) (seen (st .children) (st .cuts) v a 0) (seen (st .children) (st .cuts) v b 0)
   range-answer h i = kind-answer 0 (rw (lt-ltb v 32 h)) (λ w. seen-range (st .children) (st .cuts) v w 0 h) (λ k. absurd (omega arith)) i
 
   pub bool-sides : firstBoolean ≤ v → AskedSides st noted firstBoolean n a b
   bool-sides h = at-kind firstBoolean (rw (le-ltb v 32 h)) (λ w. seen-bool (st .children) (st .cuts) v w 0 h) (λ k. h)
 
-  pub bool-answer : firstBoolean ≤ v → {noted′ : List ℕ} {z : Bool} → Answers st noted′ (apart n (whole st) (seen (st .children) (st .cuts) firstBoolean a 0) (seen (st .children) (st .cuts) firstBoolean b 0)) z → Answers st noted′ (apart n (whole st) (seen (st .children) (st .cuts) v a 0) (seen (st .children) (st .cuts) v b 0)) z
+  pub bool-answer : firstBoolean ≤ v → {z : Bool} → z ≡ apart n (whole st) (seen (st .children) (st .cuts) firstBoolean a 0) (seen (st .children) (st .cuts) firstBoolean b 0) → z ≡ apart n (whole st) (seen (st .children) (st .cuts) v a 0) (seen (st .children) (st .cuts) v b 0)
   bool-answer h i = kind-answer firstBoolean (rw (le-ltb v 32 h)) (λ w. seen-bool (st .children) (st .cuts) v w 0 h) (λ k. h) i

@@ -53,14 +53,15 @@ pub record Turned (n : ℕ) (t : Table) (children : List ℕ) (cuts : List ℤ) 
 pub turned-at : {n : ℕ} {t : Table} {children : List ℕ} {cuts : List ℤ} {a b : View} {i j z : ℕ} → z ≡ j → Turned n t children cuts a b i j → Turned n t children cuts a b i z
 turned-at {n} {t} {children} {cuts} {a} {b} {i} e h = subst (λ (k : ℕ). Turned n t children cuts a b i k) (sym e) h
 
--- where a loop is, beside a memo that is still true and as long as it was
-pub record Beside (st : Store) (noted₀ noted : List ℕ) (Here : Type 0) : Type 0 where
+-- where a loop is, beside a memo that is still true and as long as it was, and a rest that stays where there is a set of words
+pub record Beside (st : Store) (noted₀ noted : List ℕ) (rest more : ℕ) (Here : Type 0) : Type 0 where
   pub here : Here
   pub listed : Listed st noted
   pub long : length noted ≡ length noted₀
+  pub stays : 8 ≤ length noted → more ≡ rest
 
-pub beside-at : {st : Store} {noted z : List ℕ} {Here : Type 0} (noted₀ : List ℕ) → z ≡ noted → Listed st noted → length noted ≡ length noted₀ → Here → Beside st noted₀ z Here
-beside-at {st} noted₀ e l h w = record { here = w; listed = subst (Listed st) (sym e) l; long = ap length e ∙ h }
+pub beside-at : {st : Store} {noted z : List ℕ} {rest more w : ℕ} {Here : Type 0} (noted₀ : List ℕ) → z ≡ noted → w ≡ more → Listed st noted → length noted ≡ length noted₀ → (8 ≤ length noted → more ≡ rest) → Here → Beside st noted₀ z rest w Here
+beside-at {st} {noted} {z} noted₀ e f l h g i = record { here = i; listed = subst (Listed st) (sym e) l; long = ap length e ∙ h; stays = λ k. f ∙ g (subst (λ (m : List ℕ). 8 ≤ length m) e k) }
 
 module _ {st : Store} {noted : List ℕ} {n : ℕ} {a b : View} (s : AskedSides st noted 0 n a b) where
   abbrev t : Table

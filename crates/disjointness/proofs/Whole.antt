@@ -15,17 +15,16 @@ use Rattle.table.specs.Told.{Allowed}
 use Rattle.memo.proofs.Recalled.{memo-zeroed}
 use Rattle.views.specs.Seeing.{usedIn, Readable}
 use Rattle.views.proofs.Sights.{sound-readable, asked-of-all-known, used-is}
-use Rattle.disjointness.specs.Asking.{whole, AskedPair, Answers}
+use Rattle.disjointness.specs.Asking.{whole, AskedPair}
 
 module _ {st : Store} {index : List ℕ} {u : ℕ} (s : SoundLent st index u) where
   used : usedIn (st .nodes) ≡ u
   used = used-is (s .records)
 
-  pub sound-asked : {x y : ℕ} (k : ℕ) → 8 ≤ k → k ≤ mostNodes * 8 → Allowed st index → KnownTo u x → KnownTo u y → AskedPair st (replicate k 0) (variables + 1) x y
-  sound-asked {x} {y} k lo hi a hx hy = record {
+  pub sound-asked : {x y : ℕ} (k : ℕ) → k ≤ mostNodes * 8 → Allowed st index → KnownTo u x → KnownTo u y → AskedPair st (replicate k 0) (variables + 1) x y
+  sound-asked {x} {y} k hi a hx hy = record {
     listed = record {
       readable = subst (Readable st) (sym used) (sound-readable st index u a s);
-      long = omega (arith, length-replicate {A = ℕ} k 0);
       most = omega (arith, length-replicate {A = ℕ} k 0);
       pairs = memo-zeroed k;
     };
@@ -33,5 +32,5 @@ module _ {st : Store} {index : List ℕ} {u : ℕ} (s : SoundLent st index u) wh
     right = asked-of-all-known (subst (λ (n : ℕ). KnownTo n y) (sym used) hy);
   }
 
-  pub sound-answer : {noted : List ℕ} {r : Bool} (x y : ℕ) → Answers st noted (is-disjoint (whole st) x y) r → r ≡ is-disjoint (held st u) x y
-  sound-answer x y a = a .right ∙ ap (λ (m : ℕ). is-disjoint (held st m) x y) used
+  pub sound-answer : {r : Bool} (x y : ℕ) → r ≡ is-disjoint (whole st) x y → r ≡ is-disjoint (held st u) x y
+  sound-answer x y a = a ∙ ap (λ (m : ℕ). is-disjoint (held st m) x y) used

@@ -1,7 +1,8 @@
 -- What disjointness asks of a lent table and of its memo, and what it answers. Document 01, step 6. Assumes nothing.
 use mathlib.Core.Path.{_≡_}
-use mathlib.Core.Bool.{Bool, false, _&&_}
+use mathlib.Core.Bool.{Bool, true, false, _&&_}
 use mathlib.Core.List.{List}
+use mathlib.Core.Logic.{_⊎_}
 use Prim.Native.Nat.{ℕ, _*_, _≤_}
 use lib.ListN.{length}
 use Rattle.diagram.specs.Pieces.{Pieces, Each, Rising}
@@ -13,6 +14,7 @@ use Rattle.table.specs.Held.{held}
 use Rattle.memo.specs.Recalling.{Memo}
 use Rattle.views.specs.Seeing.{usedIn, Readable, Asked, seen, Inside}
 use Rattle.views.specs.declared.View.{View}
+use Rattle.disjointness.specs.declared.Tried.{Tried}
 
 -- The table that is held.
 abbrev pub whole : Store → Table
@@ -29,7 +31,6 @@ Excluding t x y z = (α : Assignment) → (value t α x && value t α y) ≡ fal
 -- A table that can be read, and a memo of pairs that exclude each other in it.
 pub record Listed (st : Store) (noted : List ℕ) : Type 0 where
   pub readable : Readable st (usedIn (st .nodes))
-  pub long : 8 ≤ length noted
   pub most : length noted ≤ mostNodes * 8
   pub pairs : Memo (Excluding (whole st)) noted
 
@@ -54,7 +55,13 @@ pub record AskedSides (st : Store) (noted : List ℕ) (v n : ℕ) (a b : View) :
   pub right-asked : Each (AskedIn st n) (seen (st .children) (st .cuts) v b 0)
   pub two-edges : firstBoolean ≤ v → (a .count ≤ 2) × (b .count ≤ 2)
 
--- The answer is the one that is wanted, and what the memo says afterwards is still true.
-pub record Answers (st : Store) (noted : List ℕ) (want r : Bool) : Type 0 where
-  pub right : r ≡ want
+-- A yes is an answer, and so is a no with a rest.
+abbrev pub Sure : Tried → Type 0
+Sure r = (r .yes ≡ true) ⊎ (1 ≤ r .rest)
+
+-- The answer, if it is one, is the one that is wanted; what the memo says afterwards is still true; and where there is a set of words to note
+-- in, the rest stays.
+pub record Answers (st : Store) (noted : List ℕ) (rest : ℕ) (want : Bool) (r : Tried) : Type 0 where
+  pub right : Sure r → r .yes ≡ want
   pub listed : Listed st noted
+  pub stays : 8 ≤ length noted → r .rest ≡ rest

@@ -1,5 +1,5 @@
 // Whether two conditions exclude each other. Document 01, step 6: `is_disjoint` and `is_disjoint_ranges` of the source. No node is made. Pairs
-// that were found to exclude each other are noted in a memo, or else the work might double with each variable.
+// that were found to exclude each other can be noted in a memo: without it the work may double with each variable.
 ghost use mathlib.Core.Path.{_≡_};
 ghost use mathlib.Core.Bool.{_||_};
 ghost use lib.Dec.{eqb};
@@ -14,6 +14,7 @@ use memo::in_order;
 use memo::recall;
 use memo::remember;
 use table::limits::FIRST_BOOLEAN;
+use table::limits::MEMO_WORDS;
 use views::View;
 use views::child;
 use views::cut;
@@ -34,8 +35,16 @@ fn agreeing(x: NodeId, y: NodeId) -> bool
     x.0 == y.0
 }
 
+// What a walk found. A no beside a rest of 0 is no answer: the walk gave up.
+pub struct Tried {
+    pub yes: bool,
+    pub rest: usize,
+}
+
 // Whether no reading makes both ids true. "FALSE is disjoint with everything, itself included", so the test for opposed ids comes before
 // the one for equal ids. `ahead` is more than the variables that are still ahead, and so more than the calls can nest.
+// With less than a set of words to note in, nothing is noted, and the walk gives up after `rest` pairs: most calls need no more, and such a
+// memo costs nothing to set up. With a set or more it goes on to the end, if `rest` is not 0.
 pub fn is_disjoint(
     nodes: &[u32],
     children: &[u32],
@@ -44,35 +53,43 @@ pub fn is_disjoint(
     x: NodeId,
     y: NodeId,
     ahead: usize,
-) -> bool
+    rest: usize,
+) -> Tried
     requires { ⌜ AskedPair (store (now nodes) (now children) (now cuts)) (now noted) ahead (x .0) (y .0) ⌝ }
-    ensures { λ r. ⌜ Answers (store (now (nodes .entry)) (now (children .entry)) (now (cuts .entry))) (now (noted .exit)) (disjoint ahead (whole (store (now (nodes .entry)) (now (children .entry)) (now (cuts .entry)))) (x .0) (y .0)) r ⌝ }
+    ensures { λ r. ⌜ Answers (store (now (nodes .entry)) (now (children .entry)) (now (cuts .entry))) (now (noted .exit)) rest (disjoint ahead (whole (store (now (nodes .entry)) (now (children .entry)) (now (cuts .entry)))) (x .0) (y .0)) r ⌝ }
 {
     // First, for the sake of FALSE: it is equal to itself, and disjoint with itself all the same.
     if opposed(x, y) {
-        return true;
+        return Tried { yes: true, rest };
     }
     // Neither is FALSE any more, and no other id of a sound table is false under every reading: so these two meet.
     if agreeing(x, y) {
-        return false;
+        return Tried { yes: false, rest };
     }
-    // Only now the memo: neither is TRUE any more, and so a word that is no entry, whose first id is 0, cannot answer. Disjointness commutes.
+    // A no, since that ends the whole walk.
+    if rest == 0 {
+        return Tried { yes: false, rest };
+    }
+    let v = first_variable(nodes, x, y);
+    let a = view_of(nodes, x, v);
+    let b = view_of(nodes, y, v);
+    if noted.len() < MEMO_WORDS {
+        return sides_disjoint(nodes, children, cuts, noted, a, b, v, ahead - 1, rest - 1);
+    }
+    // Neither is TRUE any more, and so a word that is no entry, whose first id is 0, cannot answer. Disjointness commutes.
     let p = in_order(x, y);
     let first = p.first;
     let second = p.second;
     let s = recall(noted, first, second);
     if s.done {
-        return true;
+        return Tried { yes: true, rest };
     }
-    let v = first_variable(nodes, x, y);
-    let a = view_of(nodes, x, v);
-    let b = view_of(nodes, y, v);
-    let yes = sides_disjoint(nodes, children, cuts, noted, a, b, v, ahead - 1);
+    let t = sides_disjoint(nodes, children, cuts, noted, a, b, v, ahead - 1, rest);
     // A pair that is not disjoint is not noted: it ends the whole walk.
-    if yes {
+    if t.yes {
         remember(noted, first, second, NodeId::FALSE, v);
     }
-    yes
+    t
 }
 
 // At variable v: ranges or booleans.
@@ -85,14 +102,15 @@ fn sides_disjoint(
     b: View,
     v: usize,
     ahead: usize,
-) -> bool
+    rest: usize,
+) -> Tried
     requires { ⌜ AskedSides (store (now nodes) (now children) (now cuts)) (now noted) v ahead a b ⌝ }
-    ensures { λ r. ⌜ Answers (store (now (nodes .entry)) (now (children .entry)) (now (cuts .entry))) (now (noted .exit)) (apart ahead (whole (store (now (nodes .entry)) (now (children .entry)) (now (cuts .entry)))) (seen (now (children .entry)) (now (cuts .entry)) v a 0) (seen (now (children .entry)) (now (cuts .entry)) v b 0)) r ⌝ }
+    ensures { λ r. ⌜ Answers (store (now (nodes .entry)) (now (children .entry)) (now (cuts .entry))) (now (noted .exit)) rest (apart ahead (whole (store (now (nodes .entry)) (now (children .entry)) (now (cuts .entry)))) (seen (now (children .entry)) (now (cuts .entry)) v a 0) (seen (now (children .entry)) (now (cuts .entry)) v b 0)) r ⌝ }
 {
     if v < FIRST_BOOLEAN {
-        return ranges_disjoint(nodes, children, cuts, noted, a, b, ahead);
+        return ranges_disjoint(nodes, children, cuts, noted, a, b, ahead, rest);
     }
-    booleans_disjoint(nodes, children, cuts, noted, a, b, ahead)
+    booleans_disjoint(nodes, children, cuts, noted, a, b, ahead, rest)
 }
 
 // At a range variable: "the answer is no at the first overlapping pair of edges whose children aren't disjoint". The right edges that
@@ -105,11 +123,13 @@ fn ranges_disjoint(
     a: View,
     b: View,
     ahead: usize,
-) -> bool
+    rest: usize,
+) -> Tried
     requires { ⌜ AskedSides (store (now nodes) (now children) (now cuts)) (now noted) 0 ahead a b ⌝ }
-    ensures { λ r. ⌜ Answers (store (now (nodes .entry)) (now (children .entry)) (now (cuts .entry))) (now (noted .exit)) (apart ahead (whole (store (now (nodes .entry)) (now (children .entry)) (now (cuts .entry)))) (seen (now (children .entry)) (now (cuts .entry)) 0 a 0) (seen (now (children .entry)) (now (cuts .entry)) 0 b 0)) r ⌝ }
+    ensures { λ r. ⌜ Answers (store (now (nodes .entry)) (now (children .entry)) (now (cuts .entry))) (now (noted .exit)) rest (apart ahead (whole (store (now (nodes .entry)) (now (children .entry)) (now (cuts .entry)))) (seen (now (children .entry)) (now (cuts .entry)) 0 a 0) (seen (now (children .entry)) (now (cuts .entry)) 0 b 0)) r ⌝ }
 {
     let mut answer = true;
+    let mut more = rest;
     let mut i = 0;
     let mut j = 0;
     'left: while i < a.count {
@@ -117,7 +137,9 @@ fn ranges_disjoint(
         let k = cut(cuts, a, i);
         while j < b.count {
             let y = child(children, b, j);
-            if !is_disjoint(nodes, children, cuts, noted, x, y, ahead) {
+            let t = is_disjoint(nodes, children, cuts, noted, x, y, ahead, more);
+            more = t.rest;
+            if !t.yes {
                 answer = false;
                 break 'left;
             }
@@ -133,7 +155,10 @@ fn ranges_disjoint(
         }
         i += 1;
     }
-    answer
+    Tried {
+        yes: answer,
+        rest: more,
+    }
 }
 
 // At a boolean variable: the high children, and then the low ones. Of an id that doesn't test it both are the id itself.
@@ -145,17 +170,19 @@ fn booleans_disjoint(
     a: View,
     b: View,
     ahead: usize,
-) -> bool
+    rest: usize,
+) -> Tried
     requires { ⌜ AskedSides (store (now nodes) (now children) (now cuts)) (now noted) firstBoolean ahead a b ⌝ }
-    ensures { λ r. ⌜ Answers (store (now (nodes .entry)) (now (children .entry)) (now (cuts .entry))) (now (noted .exit)) (apart ahead (whole (store (now (nodes .entry)) (now (children .entry)) (now (cuts .entry)))) (seen (now (children .entry)) (now (cuts .entry)) firstBoolean a 0) (seen (now (children .entry)) (now (cuts .entry)) firstBoolean b 0)) r ⌝ }
+    ensures { λ r. ⌜ Answers (store (now (nodes .entry)) (now (children .entry)) (now (cuts .entry))) (now (noted .exit)) rest (apart ahead (whole (store (now (nodes .entry)) (now (children .entry)) (now (cuts .entry)))) (seen (now (children .entry)) (now (cuts .entry)) firstBoolean a 0) (seen (now (children .entry)) (now (cuts .entry)) firstBoolean b 0)) r ⌝ }
 {
     // High before low, as in the source. Nothing is made here, so no id depends on it.
     let x = child(children, a, 0);
     let y = child(children, b, 0);
-    if !is_disjoint(nodes, children, cuts, noted, x, y, ahead) {
-        return false;
+    let t = is_disjoint(nodes, children, cuts, noted, x, y, ahead, rest);
+    if !t.yes {
+        return t;
     }
     let x = child(children, a, a.count - 1);
     let y = child(children, b, b.count - 1);
-    is_disjoint(nodes, children, cuts, noted, x, y, ahead)
+    is_disjoint(nodes, children, cuts, noted, x, y, ahead, t.rest)
 }

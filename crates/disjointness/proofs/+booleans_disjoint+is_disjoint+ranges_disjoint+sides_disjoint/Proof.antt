@@ -1,7 +1,7 @@
 -- `is_disjoint` meets its contract, with the functions that it goes down by. Assumes nothing.
-use mathlib.Core.Path.{_≡_, refl, _∙_}
+use mathlib.Core.Path.{_≡_, refl, sym, _∙_}
 use mathlib.Core.Bool.{true}
-use mathlib.Core.Logic.{⊎-elim}
+use mathlib.Core.Logic.{inl, ⊎-elim}
 use Prim.Native.Nat.{ℕ, _+_, _-_, _*_, _<_}
 use native.Mathlib.Omega.{arith}
 use borrow.Author.Needs.{needs}
@@ -10,7 +10,7 @@ use Rattle.table.specs.Layout.{store}
 use Rattle.disjointness.specs.Asking.{whole}
 use Rattle.disjointness.proofs.Walks.{children-asked, cuts-inside, Walked, Turned, turned-at, Beside, beside-at, walk-starts, walk-no, walk-left, walk-right, walk-both}
 use Rattle.disjointness.proofs.Pairs.{high-no, high-yes}
-use Rattle.disjointness.proofs.Opening.{some-ahead, left-inside, right-inside, opening-yes, opening-no, ids-small, recalled-yes, noted-yes, left-node, right-node, variable-known, sides-asked, sides-answer, range-sides, range-answer, bool-sides, bool-answer}
+use Rattle.disjointness.proofs.Opening.{gave-up, sure-no, some-ahead, left-inside, right-inside, opening-yes, opening-no, ids-small, recalled-yes, noted-listed, left-node, right-node, variable-known, sides-asked, sides-answer, range-sides, range-answer, bool-sides, bool-answer}
 use borrow.Fn.Kinds.{In}
 use borrow.Fn.PlainCycle.{Measures, is, falls, and}
 use Rattle.disjointness.proofs.booleans_disjoint.Reads as booleans-disjoint
@@ -113,7 +113,7 @@ abbrev booleans-disjoint-claims : ℕ → booleans-disjoint-lts.Claims
 booleans-disjoint-claims t = (child-reads.Asked, child-reads.Learnt, is-disjoint-below t, is-disjoint.Post)
 
 abbrev is-disjoint-claims : ℕ → is-disjoint-lts.Claims
-is-disjoint-claims t = (opposed-reads.Asked, opposed-reads.Learnt, agreeing-reads.Asked, agreeing-reads.Learnt, in-order-reads.Asked, in-order-reads.Learnt, recall-reads.Asked, recall-reads.Learnt, first-variable-reads.Asked, first-variable-reads.Learnt, view-of-reads.Asked, view-of-reads.Learnt, sides-disjoint-below t, sides-disjoint.Post, remember-reads.Asked, remember-reads.Learnt)
+is-disjoint-claims t = (opposed-reads.Asked, opposed-reads.Learnt, agreeing-reads.Asked, agreeing-reads.Learnt, first-variable-reads.Asked, first-variable-reads.Learnt, view-of-reads.Asked, view-of-reads.Learnt, sides-disjoint-below t, sides-disjoint.Post, in-order-reads.Asked, in-order-reads.Learnt, recall-reads.Asked, recall-reads.Learnt, remember-reads.Asked, remember-reads.Learnt)
 
 abbrev ranges-disjoint-claims : ℕ → ranges-disjoint-lts.Claims
 ranges-disjoint-claims t = (child-reads.Asked, child-reads.Learnt, cut-reads.Asked, cut-reads.Learnt, is-disjoint-below t, is-disjoint.Post)
@@ -130,93 +130,117 @@ booleans-disjoint-child-requires-2 t c κs = ((c .before .before .before .before
 booleans-disjoint-is-disjoint-requires : (t : ℕ) → booleans-disjoint-lts.Need-is-disjoint-requires (booleans-disjoint-claims t) (booleans-disjoint-at t) booleans-disjoint.Post
 booleans-disjoint-is-disjoint-requires t c κs = (omega (arith, (c .before .before .before .before .before .before .pre .0)), children-asked (c .before .before .before .before .before .before .pre .1) (c .before .before .before .before .before .before .pre .1 .listed) (omega (arith, (c .before .before .before .before .before .before .pre .1 .left .some))) (omega (arith, (c .before .before .before .before .before .before .pre .1 .right .some))) (c .before .before .child .ensures) (c .before .child2 .ensures))
 
+booleans-disjoint-same-length : (t : ℕ) → booleans-disjoint-lts.Need-same-length (booleans-disjoint-claims t) (booleans-disjoint-at t) booleans-disjoint.Post
+booleans-disjoint-same-length t c = search needs
+
 booleans-disjoint-returns : (t : ℕ) → booleans-disjoint-lts.Need-returns (booleans-disjoint-claims t) (booleans-disjoint-at t) booleans-disjoint.Post
-booleans-disjoint-returns t c = record { right = high-no (c .before .before .before .before .before .before .before .before .before .before .pre .1) (c .before .before .before .before .before .before .child .ensures) (c .before .before .before .before .before .child2 .ensures) (c .before .before .before .is-disjoint .ensures .right) (not-true _ (c .if1 .taken)); listed = (c .before .before .before .is-disjoint .ensures .listed) }
+booleans-disjoint-returns t c = record { right = λ s. not-true _ (c .if1 .taken) ∙ high-no (c .before .before .before .before .before .before .before .before .before .before .before .pre .1) (c .before .before .before .before .before .before .before .child .ensures) (c .before .before .before .before .before .before .child2 .ensures) ((c .before .before .before .before .is-disjoint .ensures .right) s) (not-true _ (c .if1 .taken)); listed = (c .before .before .before .before .is-disjoint .ensures .listed); stays = (c .before .before .before .before .is-disjoint .ensures .stays) }
 
 booleans-disjoint-sub-child : (t : ℕ) → booleans-disjoint-lts.Need-sub-child (booleans-disjoint-claims t) (booleans-disjoint-at t) booleans-disjoint.Post
-booleans-disjoint-sub-child t c = omega (arith, (c .before .before .before .before .before .before .before .before .before .before .before .pre .1 .left .some))
+booleans-disjoint-sub-child t c = omega (arith, (c .before .before .before .before .before .before .before .before .before .before .before .before .pre .1 .left .some))
 
 booleans-disjoint-child-requires-3 : (t : ℕ) → booleans-disjoint-lts.Need-child-requires-3 (booleans-disjoint-claims t) (booleans-disjoint-at t) booleans-disjoint.Post
-booleans-disjoint-child-requires-3 t c κs = ((c .before .before .before .before .before .before .before .before .before .before .before .pre .1 .left), omega (arith, (c .before .before .before .before .before .before .before .before .before .before .before .pre .1 .left .some)))
+booleans-disjoint-child-requires-3 t c κs = ((c .before .before .before .before .before .before .before .before .before .before .before .before .pre .1 .left), omega (arith, (c .before .before .before .before .before .before .before .before .before .before .before .before .pre .1 .left .some)))
 
 booleans-disjoint-sub-child-2 : (t : ℕ) → booleans-disjoint-lts.Need-sub-child-2 (booleans-disjoint-claims t) (booleans-disjoint-at t) booleans-disjoint.Post
-booleans-disjoint-sub-child-2 t c = omega (arith, (c .before .before .before .before .before .before .before .before .before .before .before .before .before .pre .1 .right .some))
+booleans-disjoint-sub-child-2 t c = omega (arith, (c .before .before .before .before .before .before .before .before .before .before .before .before .before .before .pre .1 .right .some))
 
 booleans-disjoint-child-requires-4 : (t : ℕ) → booleans-disjoint-lts.Need-child-requires-4 (booleans-disjoint-claims t) (booleans-disjoint-at t) booleans-disjoint.Post
-booleans-disjoint-child-requires-4 t c κs = ((c .before .before .before .before .before .before .before .before .before .before .before .before .before .pre .1 .right), omega (arith, (c .before .before .before .before .before .before .before .before .before .before .before .before .before .pre .1 .right .some)))
+booleans-disjoint-child-requires-4 t c κs = ((c .before .before .before .before .before .before .before .before .before .before .before .before .before .before .pre .1 .right), omega (arith, (c .before .before .before .before .before .before .before .before .before .before .before .before .before .before .pre .1 .right .some)))
 
 booleans-disjoint-is-disjoint-requires-2 :
     (t : ℕ) → booleans-disjoint-lts.Need-is-disjoint-requires-2 (booleans-disjoint-claims t) (booleans-disjoint-at t) booleans-disjoint.Post
-booleans-disjoint-is-disjoint-requires-2 t c κs = (omega (arith, (c .before .before .before .before .before .before .before .before .before .before .before .before .before .before .before .pre .0)), children-asked (c .before .before .before .before .before .before .before .before .before .before .before .before .before .before .before .pre .1) (c .before .before .before .before .before .before .before .before .is-disjoint .ensures .listed) (omega (arith, (c .before .before .before .before .before .before .before .before .before .before .before .before .before .before .before .pre .1 .left .some))) (omega (arith, (c .before .before .before .before .before .before .before .before .before .before .before .before .before .before .before .pre .1 .right .some))) (c .before .before .before .child3 .ensures) (c .before .child4 .ensures))
+booleans-disjoint-is-disjoint-requires-2 t c κs = (omega (arith, (c .before .before .before .before .before .before .before .before .before .before .before .before .before .before .before .before .pre .0)), children-asked (c .before .before .before .before .before .before .before .before .before .before .before .before .before .before .before .before .pre .1) (c .before .before .before .before .before .before .before .before .before .is-disjoint .ensures .listed) (omega (arith, (c .before .before .before .before .before .before .before .before .before .before .before .before .before .before .before .before .pre .1 .left .some))) (omega (arith, (c .before .before .before .before .before .before .before .before .before .before .before .before .before .before .before .before .pre .1 .right .some))) (c .before .before .before .child3 .ensures) (c .before .child4 .ensures))
+
+booleans-disjoint-same-length-2 : (t : ℕ) → booleans-disjoint-lts.Need-same-length-2 (booleans-disjoint-claims t) (booleans-disjoint-at t) booleans-disjoint.Post
+booleans-disjoint-same-length-2 t c = search needs
 
 booleans-disjoint-returns-2 : (t : ℕ) → booleans-disjoint-lts.Need-returns-2 (booleans-disjoint-claims t) (booleans-disjoint-at t) booleans-disjoint.Post
-booleans-disjoint-returns-2 t c = record { right = high-yes (c .before .before .before .before .before .before .before .before .before .before .before .before .before .before .before .before .before .before .pre .1) (c .before .before .before .before .before .before .before .before .before .before .before .before .before .before .child .ensures) (c .before .before .before .before .before .before .before .before .before .before .before .before .before .child2 .ensures) (c .before .before .before .before .before .before .before .before .before .before .before .is-disjoint .ensures .right) (not-false _ (c .before .before .before .before .before .before .before .before .if1 .left)) (c .before .before .before .before .before .before .child3 .ensures) (c .before .before .before .before .child4 .ensures) (c .before .before .is-disjoint2 .ensures .right); listed = (c .before .before .is-disjoint2 .ensures .listed) }
+booleans-disjoint-returns-2 t c = record { right = λ s. high-yes (c .before .before .before .before .before .before .before .before .before .before .before .before .before .before .before .before .before .before .before .pre .1) (c .before .before .before .before .before .before .before .before .before .before .before .before .before .before .before .child .ensures) (c .before .before .before .before .before .before .before .before .before .before .before .before .before .before .child2 .ensures) ((c .before .before .before .before .before .before .before .before .before .before .before .before .is-disjoint .ensures .right) (inl (not-false _ (c .before .before .before .before .before .before .before .before .if1 .left)))) (not-false _ (c .before .before .before .before .before .before .before .before .if1 .left)) (c .before .before .before .before .before .before .child3 .ensures) (c .before .before .before .before .child4 .ensures) ((c .before .before .is-disjoint2 .ensures .right) s); listed = (c .before .before .is-disjoint2 .ensures .listed); stays = λ l. (c .before .before .is-disjoint2 .ensures .stays) l ∙ (c .before .before .before .before .before .before .before .before .before .before .before .before .is-disjoint .ensures .stays) (omega (arith, l, (c .before .before .is-disjoint2 .kept .1 .1 .1 .0))) }
+
+is-disjoint-opposed-requires : (t : ℕ) → is-disjoint-lts.Need-opposed-requires (is-disjoint-claims t) (is-disjoint-at t) is-disjoint.Post
+is-disjoint-opposed-requires t c κs = search needs
 
 is-disjoint-returns : (t : ℕ) → is-disjoint-lts.Need-returns (is-disjoint-claims t) (is-disjoint-at t) is-disjoint.Post
-is-disjoint-returns t c = opening-yes (c .before .before .before .before .before .pre .1) (c .before .opposed .ensures) (c .if1 .taken)
+is-disjoint-returns t c = record { right = λ s. opening-yes (c .before .before .before .before .before .pre .1) (c .before .opposed .ensures) (c .if1 .taken); listed = (c .before .before .before .before .before .pre .1 .listed); stays = λ l. refl }
+
+is-disjoint-agreeing-requires : (t : ℕ) → is-disjoint-lts.Need-agreeing-requires (is-disjoint-claims t) (is-disjoint-at t) is-disjoint.Post
+is-disjoint-agreeing-requires t c κs = search needs
 
 is-disjoint-returns-2 : (t : ℕ) → is-disjoint-lts.Need-returns-2 (is-disjoint-claims t) (is-disjoint-at t) is-disjoint.Post
-is-disjoint-returns-2 t c = opening-no (c .before .before .before .before .before .before .before .pre .1) (c .before .before .before .opposed .ensures) (c .before .before .if1 .left) (c .before .agreeing .ensures) (c .if2 .taken)
-
-is-disjoint-recall-requires : (t : ℕ) → is-disjoint-lts.Need-recall-requires (is-disjoint-claims t) (is-disjoint-at t) is-disjoint.Post
-is-disjoint-recall-requires t c κs = let i = ids-small (c .before .before .before .before .before .before .before .before .before .before .before .pre .1) (c .before .before .before .in-order .ensures) in (omega (arith, (c .before .before .before .before .before .before .before .before .before .before .before .pre .1 .listed .long)), (c .before .before .before .before .before .before .before .before .before .before .before .pre .1 .listed .most), (c .before .before .before .before .before .before .before .before .before .before .before .pre .1 .listed .pairs .framed), i .0, i .1)
+is-disjoint-returns-2 t c = record { right = λ s. opening-no (c .before .before .before .before .before .before .before .pre .1) (c .before .before .before .opposed .ensures) (c .before .before .if1 .left) (c .before .agreeing .ensures) (c .if2 .taken); listed = (c .before .before .before .before .before .before .before .pre .1 .listed); stays = λ l. refl }
 
 is-disjoint-returns-3 : (t : ℕ) → is-disjoint-lts.Need-returns-3 (is-disjoint-claims t) (is-disjoint-at t) is-disjoint.Post
-is-disjoint-returns-3 t c =
-    let pre· = c .before .before .before .before .before .before .before .before .before .before .before .before .before .pre in
-    let opposed· = c .before .before .before .before .before .before .before .before .before .opposed in
-    let if1· = c .before .before .before .before .before .before .before .before .if1 in
-    let agreeing· = c .before .before .before .before .before .before .before .agreeing in
-    let if2· = c .before .before .before .before .before .before .if2 in
-    recalled-yes (pre· .1) (c .before .before .before .before .before .in-order .ensures) (left-node (pre· .1) (opposed· .ensures) (if1· .left) (agreeing· .ensures) (if2· .left)) (right-node (pre· .1) (opposed· .ensures) (if1· .left) (agreeing· .ensures) (if2· .left)) ((c .before .recall .ensures) (c .if3 .taken))
+is-disjoint-returns-3 t c = record { right = λ s. gave-up (c .if3 .taken) s; listed = (c .before .before .before .before .before .before .before .before .pre .1 .listed); stays = λ l. refl }
 
 is-disjoint-first-variable-requires : (t : ℕ) → is-disjoint-lts.Need-first-variable-requires (is-disjoint-claims t) (is-disjoint-at t) is-disjoint.Post
-is-disjoint-first-variable-requires t c κs =
-    let pre· = c .before .before .before .before .before .before .before .before .before .before .before .before .before .pre in
-    let opposed· = c .before .before .before .before .before .before .before .before .before .opposed in
-    let if1· = c .before .before .before .before .before .before .before .before .if1 in
-    let agreeing· = c .before .before .before .before .before .before .before .agreeing in
-    let if2· = c .before .before .before .before .before .before .if2 in
-    (left-node (pre· .1) (opposed· .ensures) (if1· .left) (agreeing· .ensures) (if2· .left), left-inside (pre· .1), right-node (pre· .1) (opposed· .ensures) (if1· .left) (agreeing· .ensures) (if2· .left), right-inside (pre· .1))
+is-disjoint-first-variable-requires t c κs = (left-node (c .before .before .before .before .before .before .before .before .pre .1) (c .before .before .before .before .opposed .ensures) (c .before .before .before .if1 .left) (c .before .before .agreeing .ensures) (c .before .if2 .left), left-inside (c .before .before .before .before .before .before .before .before .pre .1), right-node (c .before .before .before .before .before .before .before .before .pre .1) (c .before .before .before .before .opposed .ensures) (c .before .before .before .if1 .left) (c .before .before .agreeing .ensures) (c .before .if2 .left), right-inside (c .before .before .before .before .before .before .before .before .pre .1))
 
 is-disjoint-view-of-requires : (t : ℕ) → is-disjoint-lts.Need-view-of-requires (is-disjoint-claims t) (is-disjoint-at t) is-disjoint.Post
-is-disjoint-view-of-requires t c κs =
-    let pre· = c .before .before .before .before .before .before .before .before .before .before .before .before .before .before .pre in
-    (left-node (pre· .1) (c .before .before .before .before .before .before .before .before .before .before .opposed .ensures) (c .before .before .before .before .before .before .before .before .before .if1 .left) (c .before .before .before .before .before .before .before .before .agreeing .ensures) (c .before .before .before .before .before .before .before .if2 .left), left-inside (pre· .1))
+is-disjoint-view-of-requires t c κs = (left-node (c .before .before .before .before .before .before .before .before .before .pre .1) (c .before .before .before .before .before .opposed .ensures) (c .before .before .before .before .if1 .left) (c .before .before .before .agreeing .ensures) (c .before .before .if2 .left), left-inside (c .before .before .before .before .before .before .before .before .before .pre .1))
 
 is-disjoint-view-of-requires-2 : (t : ℕ) → is-disjoint-lts.Need-view-of-requires-2 (is-disjoint-claims t) (is-disjoint-at t) is-disjoint.Post
-is-disjoint-view-of-requires-2 t c κs =
-    let pre· = c .before .before .before .before .before .before .before .before .before .before .before .before .before .before .before .pre in
-    (right-node (pre· .1) (c .before .before .before .before .before .before .before .before .before .before .before .opposed .ensures) (c .before .before .before .before .before .before .before .before .before .before .if1 .left) (c .before .before .before .before .before .before .before .before .before .agreeing .ensures) (c .before .before .before .before .before .before .before .before .if2 .left), right-inside (pre· .1))
+is-disjoint-view-of-requires-2 t c κs = (right-node (c .before .before .before .before .before .before .before .before .before .before .pre .1) (c .before .before .before .before .before .before .opposed .ensures) (c .before .before .before .before .before .if1 .left) (c .before .before .before .before .agreeing .ensures) (c .before .before .before .if2 .left), right-inside (c .before .before .before .before .before .before .before .before .before .before .pre .1))
 
 is-disjoint-sub-sides-disjoint : (t : ℕ) → is-disjoint-lts.Need-sub-sides-disjoint (is-disjoint-claims t) (is-disjoint-at t) is-disjoint.Post
-is-disjoint-sub-sides-disjoint t c = omega (arith, some-ahead (c .before .before .before .before .before .before .before .before .before .before .before .before .before .before .before .before .before .pre .1))
+is-disjoint-sub-sides-disjoint t c = omega (arith, some-ahead (c .before .before .before .before .before .before .before .before .before .before .before .before .before .pre .1))
+
+is-disjoint-sub-sides-disjoint-2 : (t : ℕ) → is-disjoint-lts.Need-sub-sides-disjoint-2 (is-disjoint-claims t) (is-disjoint-at t) is-disjoint.Post
+is-disjoint-sub-sides-disjoint-2 t c = omega (arith, (c .before .before .before .before .before .if3 .left))
 
 is-disjoint-sides-disjoint-requires : (t : ℕ) → is-disjoint-lts.Need-sides-disjoint-requires (is-disjoint-claims t) (is-disjoint-at t) is-disjoint.Post
-is-disjoint-sides-disjoint-requires t c κs = (omega (arith, (c .before .before .before .before .before .before .before .before .before .before .before .before .before .before .before .before .before .pre .0), some-ahead (c .before .before .before .before .before .before .before .before .before .before .before .before .before .before .before .before .before .pre .1)), sides-asked (c .before .before .before .before .before .before .before .before .before .before .before .before .before .before .before .before .before .pre .1) (c .before .before .before .before .before .before .before .before .before .before .before .before .before .opposed .ensures) (c .before .before .before .before .before .before .before .before .before .before .before .before .if1 .left) (c .before .before .before .before .before .before .before .before .before .before .before .agreeing .ensures) (c .before .before .before .before .before .before .before .before .before .before .if2 .left) (c .before .before .before .first-variable .ensures) (c .before .before .view-of .ensures) (c .before .view-of2 .ensures))
+is-disjoint-sides-disjoint-requires t c κs = (omega (arith, (c .before .before .before .before .before .before .before .before .before .before .before .before .before .pre .0), some-ahead (c .before .before .before .before .before .before .before .before .before .before .before .before .before .pre .1)), sides-asked (c .before .before .before .before .before .before .before .before .before .before .before .before .before .pre .1) (c .before .before .before .before .before .before .before .before .before .opposed .ensures) (c .before .before .before .before .before .before .before .before .if1 .left) (c .before .before .before .before .before .before .before .agreeing .ensures) (c .before .before .before .before .before .before .if2 .left) (c .before .before .before .before .first-variable .ensures) (c .before .before .before .view-of .ensures) (c .before .before .view-of2 .ensures))
 
-is-disjoint-remember-requires : (t : ℕ) → is-disjoint-lts.Need-remember-requires (is-disjoint-claims t) (is-disjoint-at t) is-disjoint.Post
-is-disjoint-remember-requires t c κs = let l = c .before .before .before .before .sides-disjoint .ensures .listed in let i = ids-small (c .before .before .before .before .before .before .before .before .before .before .before .before .before .before .before .before .before .before .before .before .before .before .pre .1) (c .before .before .before .before .before .before .before .before .before .before .before .before .before .before .in-order .ensures) in (l .long, l .most, l .pairs .framed, i .0, i .1, omega arith, variable-known (c .before .before .before .before .before .before .before .before .before .before .before .before .before .before .before .before .before .before .before .before .before .before .pre .1) (c .before .before .before .before .before .before .before .before .before .before .before .before .before .before .before .before .before .before .opposed .ensures) (c .before .before .before .before .before .before .before .before .before .before .before .before .before .before .before .before .before .if1 .left) (c .before .before .before .before .before .before .before .before .before .before .before .before .before .before .before .before .agreeing .ensures) (c .before .before .before .before .before .before .before .before .before .before .before .before .before .before .before .if2 .left) (c .before .before .before .before .before .before .before .before .first-variable .ensures) (c .before .before .before .before .before .before .before .view-of .ensures) (c .before .before .before .before .before .before .view-of2 .ensures))
+is-disjoint-same-length : (t : ℕ) → is-disjoint-lts.Need-same-length (is-disjoint-claims t) (is-disjoint-at t) is-disjoint.Post
+is-disjoint-same-length t c = search needs
 
 is-disjoint-returns-4 : (t : ℕ) → is-disjoint-lts.Need-returns-4 (is-disjoint-claims t) (is-disjoint-at t) is-disjoint.Post
-is-disjoint-returns-4 t c =
-    let pre· = c .before .before .before .before .before .before .before .before .before .before .before .before .before .before .before .before .before .before .before .before .before .before .before .before .before .pre in
-    noted-yes (pre· .1) (c .before .before .before .before .before .before .before .before .before .before .before .before .before .before .before .before .before .in-order .ensures) (sides-answer (pre· .1) (c .before .before .before .before .before .before .before .before .before .before .before .before .before .before .before .before .before .before .before .before .before .opposed .ensures) (c .before .before .before .before .before .before .before .before .before .before .before .before .before .before .before .before .before .before .before .before .if1 .left) (c .before .before .before .before .before .before .before .before .before .before .before .before .before .before .before .before .before .before .before .agreeing .ensures) (c .before .before .before .before .before .before .before .before .before .before .before .before .before .before .before .before .before .before .if2 .left) (c .before .before .before .before .before .before .before .before .before .before .before .first-variable .ensures) (c .before .before .before .before .before .before .before .before .before .before .view-of .ensures) (c .before .before .before .before .before .before .before .before .before .view-of2 .ensures) (c .before .before .before .before .before .before .before .sides-disjoint .ensures)) (c .before .before .before .before .if4 .taken) (c .before .before .remember .ensures)
+is-disjoint-returns-4 t c = record { right = λ s. sides-answer (c .before .before .before .before .before .before .before .before .before .before .before .before .before .before .before .before .pre .1) (c .before .before .before .before .before .before .before .before .before .before .before .before .opposed .ensures) (c .before .before .before .before .before .before .before .before .before .before .before .if1 .left) (c .before .before .before .before .before .before .before .before .before .before .agreeing .ensures) (c .before .before .before .before .before .before .before .before .before .if2 .left) (c .before .before .before .before .before .before .before .first-variable .ensures) (c .before .before .before .before .before .before .view-of .ensures) (c .before .before .before .before .before .view-of2 .ensures) ((c .before .before .sides-disjoint .ensures .right) s); listed = (c .before .before .sides-disjoint .ensures .listed); stays = λ l. absurd (omega (arith, l, (c .before .before .before .before .if4 .taken), (c .before .before .sides-disjoint .kept .1 .1 .1 .0))) }
+
+is-disjoint-in-order-requires : (t : ℕ) → is-disjoint-lts.Need-in-order-requires (is-disjoint-claims t) (is-disjoint-at t) is-disjoint.Post
+is-disjoint-in-order-requires t c κs = search needs
+
+is-disjoint-recall-requires : (t : ℕ) → is-disjoint-lts.Need-recall-requires (is-disjoint-claims t) (is-disjoint-at t) is-disjoint.Post
+is-disjoint-recall-requires t c κs = let i = ids-small (c .before .before .before .before .before .before .before .before .before .before .before .before .before .before .before .before .pre .1) (c .before .before .before .in-order .ensures) in (omega (arith, (c .before .before .before .before .if4 .left)), (c .before .before .before .before .before .before .before .before .before .before .before .before .before .before .before .before .pre .1 .listed .most), (c .before .before .before .before .before .before .before .before .before .before .before .before .before .before .before .before .pre .1 .listed .pairs .framed), i .0, i .1)
+
+is-disjoint-same-length-2 : (t : ℕ) → is-disjoint-lts.Need-same-length-2 (is-disjoint-claims t) (is-disjoint-at t) is-disjoint.Post
+is-disjoint-same-length-2 t c = search needs
 
 is-disjoint-returns-5 : (t : ℕ) → is-disjoint-lts.Need-returns-5 (is-disjoint-claims t) (is-disjoint-at t) is-disjoint.Post
-is-disjoint-returns-5 t c = sides-answer (c .before .before .before .before .before .before .before .before .before .before .before .before .before .before .before .before .before .before .before .before .before .pre .1) (c .before .before .before .before .before .before .before .before .before .before .before .before .before .before .before .before .before .opposed .ensures) (c .before .before .before .before .before .before .before .before .before .before .before .before .before .before .before .before .if1 .left) (c .before .before .before .before .before .before .before .before .before .before .before .before .before .before .before .agreeing .ensures) (c .before .before .before .before .before .before .before .before .before .before .before .before .before .before .if2 .left) (c .before .before .before .before .before .before .before .first-variable .ensures) (c .before .before .before .before .before .before .view-of .ensures) (c .before .before .before .before .before .view-of2 .ensures) (c .before .before .before .sides-disjoint .ensures)
+is-disjoint-returns-5 t c = record { right = λ s. recalled-yes (c .before .before .before .before .before .before .before .before .before .before .before .before .before .before .before .before .before .before .pre .1) (c .before .before .before .before .before .in-order .ensures) (left-node (c .before .before .before .before .before .before .before .before .before .before .before .before .before .before .before .before .before .before .pre .1) (c .before .before .before .before .before .before .before .before .before .before .before .before .before .before .opposed .ensures) (c .before .before .before .before .before .before .before .before .before .before .before .before .before .if1 .left) (c .before .before .before .before .before .before .before .before .before .before .before .before .agreeing .ensures) (c .before .before .before .before .before .before .before .before .before .before .before .if2 .left)) (right-node (c .before .before .before .before .before .before .before .before .before .before .before .before .before .before .before .before .before .before .pre .1) (c .before .before .before .before .before .before .before .before .before .before .before .before .before .before .opposed .ensures) (c .before .before .before .before .before .before .before .before .before .before .before .before .before .if1 .left) (c .before .before .before .before .before .before .before .before .before .before .before .before .agreeing .ensures) (c .before .before .before .before .before .before .before .before .before .before .before .if2 .left)) ((c .before .recall .ensures) (c .if5 .taken)); listed = (c .before .before .before .before .before .before .before .before .before .before .before .before .before .before .before .before .before .before .pre .1 .listed); stays = λ l. refl }
+
+is-disjoint-sub-sides-disjoint-3 : (t : ℕ) → is-disjoint-lts.Need-sub-sides-disjoint-3 (is-disjoint-claims t) (is-disjoint-at t) is-disjoint.Post
+is-disjoint-sub-sides-disjoint-3 t c = omega (arith, some-ahead (c .before .before .before .before .before .before .before .before .before .before .before .before .before .before .before .before .before .before .before .pre .1))
+
+is-disjoint-sides-disjoint-requires-2 : (t : ℕ) → is-disjoint-lts.Need-sides-disjoint-requires-2 (is-disjoint-claims t) (is-disjoint-at t) is-disjoint.Post
+is-disjoint-sides-disjoint-requires-2 t c κs = (omega (arith, (c .before .before .before .before .before .before .before .before .before .before .before .before .before .before .before .before .before .before .before .pre .0), some-ahead (c .before .before .before .before .before .before .before .before .before .before .before .before .before .before .before .before .before .before .before .pre .1)), sides-asked (c .before .before .before .before .before .before .before .before .before .before .before .before .before .before .before .before .before .before .before .pre .1) (c .before .before .before .before .before .before .before .before .before .before .before .before .before .before .before .opposed .ensures) (c .before .before .before .before .before .before .before .before .before .before .before .before .before .before .if1 .left) (c .before .before .before .before .before .before .before .before .before .before .before .before .before .agreeing .ensures) (c .before .before .before .before .before .before .before .before .before .before .before .before .if2 .left) (c .before .before .before .before .before .before .before .before .before .before .first-variable .ensures) (c .before .before .before .before .before .before .before .before .before .view-of .ensures) (c .before .before .before .before .before .before .before .before .view-of2 .ensures))
+
+is-disjoint-remember-requires : (t : ℕ) → is-disjoint-lts.Need-remember-requires (is-disjoint-claims t) (is-disjoint-at t) is-disjoint.Post
+is-disjoint-remember-requires t c κs = let i = ids-small (c .before .before .before .before .before .before .before .before .before .before .before .before .before .before .before .before .before .before .before .before .before .before .before .before .pre .1) (c .before .before .before .before .before .before .before .before .before .before .before .in-order .ensures) in (omega (arith, (c .before .before .before .before .before .before .before .before .before .before .before .before .if4 .left), (c .before .before .before .before .sides-disjoint2 .kept .1 .1 .1 .0)), (c .before .before .before .before .sides-disjoint2 .ensures .listed .most), (c .before .before .before .before .sides-disjoint2 .ensures .listed .pairs .framed), i .0, i .1, omega arith, variable-known (c .before .before .before .before .before .before .before .before .before .before .before .before .before .before .before .before .before .before .before .before .before .before .before .before .pre .1) (c .before .before .before .before .before .before .before .before .before .before .before .before .before .before .before .before .before .before .before .before .opposed .ensures) (c .before .before .before .before .before .before .before .before .before .before .before .before .before .before .before .before .before .before .before .if1 .left) (c .before .before .before .before .before .before .before .before .before .before .before .before .before .before .before .before .before .before .agreeing .ensures) (c .before .before .before .before .before .before .before .before .before .before .before .before .before .before .before .before .before .if2 .left) (c .before .before .before .before .before .before .before .before .before .before .before .before .before .before .before .first-variable .ensures) (c .before .before .before .before .before .before .before .before .before .before .before .before .before .before .view-of .ensures) (c .before .before .before .before .before .before .before .before .before .before .before .before .before .view-of2 .ensures))
+
+is-disjoint-same-length-3 : (t : ℕ) → is-disjoint-lts.Need-same-length-3 (is-disjoint-claims t) (is-disjoint-at t) is-disjoint.Post
+is-disjoint-same-length-3 t c = search needs
+
+is-disjoint-returns-6 : (t : ℕ) → is-disjoint-lts.Need-returns-6 (is-disjoint-claims t) (is-disjoint-at t) is-disjoint.Post
+is-disjoint-returns-6 t c = record { right = λ s. sides-answer (c .before .before .before .before .before .before .before .before .before .before .before .before .before .before .before .before .before .before .before .before .before .before .before .before .before .before .before .pre .1) (c .before .before .before .before .before .before .before .before .before .before .before .before .before .before .before .before .before .before .before .before .before .before .before .opposed .ensures) (c .before .before .before .before .before .before .before .before .before .before .before .before .before .before .before .before .before .before .before .before .before .before .if1 .left) (c .before .before .before .before .before .before .before .before .before .before .before .before .before .before .before .before .before .before .before .before .before .agreeing .ensures) (c .before .before .before .before .before .before .before .before .before .before .before .before .before .before .before .before .before .before .before .before .if2 .left) (c .before .before .before .before .before .before .before .before .before .before .before .before .before .before .before .before .before .before .first-variable .ensures) (c .before .before .before .before .before .before .before .before .before .before .before .before .before .before .before .before .before .view-of .ensures) (c .before .before .before .before .before .before .before .before .before .before .before .before .before .before .before .before .view-of2 .ensures) ((c .before .before .before .before .before .before .before .sides-disjoint2 .ensures .right) s); listed = noted-listed (c .before .before .before .before .before .before .before .before .before .before .before .before .before .before .before .before .before .before .before .before .before .before .before .before .before .before .before .pre .1) (c .before .before .before .before .before .before .before .before .before .before .before .before .before .before .in-order .ensures) (c .before .before .before .before .before .before .before .sides-disjoint2 .ensures .listed) (sym (c .before .before .before .before .if6 .taken) ∙ sides-answer (c .before .before .before .before .before .before .before .before .before .before .before .before .before .before .before .before .before .before .before .before .before .before .before .before .before .before .before .pre .1) (c .before .before .before .before .before .before .before .before .before .before .before .before .before .before .before .before .before .before .before .before .before .before .before .opposed .ensures) (c .before .before .before .before .before .before .before .before .before .before .before .before .before .before .before .before .before .before .before .before .before .before .if1 .left) (c .before .before .before .before .before .before .before .before .before .before .before .before .before .before .before .before .before .before .before .before .before .agreeing .ensures) (c .before .before .before .before .before .before .before .before .before .before .before .before .before .before .before .before .before .before .before .before .if2 .left) (c .before .before .before .before .before .before .before .before .before .before .before .before .before .before .before .before .before .before .first-variable .ensures) (c .before .before .before .before .before .before .before .before .before .before .before .before .before .before .before .before .before .view-of .ensures) (c .before .before .before .before .before .before .before .before .before .before .before .before .before .before .before .before .view-of2 .ensures) ((c .before .before .before .before .before .before .before .sides-disjoint2 .ensures .right) (inl (c .before .before .before .before .if6 .taken)))) (c .before .before .remember .ensures); stays = λ l. (c .before .before .before .before .before .before .before .sides-disjoint2 .ensures .stays) (omega (arith, l, (c .before .before .remember .ensures .long))) }
+
+is-disjoint-same-length-4 : (t : ℕ) → is-disjoint-lts.Need-same-length-4 (is-disjoint-claims t) (is-disjoint-at t) is-disjoint.Post
+is-disjoint-same-length-4 t c = search needs
+
+is-disjoint-returns-7 : (t : ℕ) → is-disjoint-lts.Need-returns-7 (is-disjoint-claims t) (is-disjoint-at t) is-disjoint.Post
+is-disjoint-returns-7 t c = record { right = λ s. sides-answer (c .before .before .before .before .before .before .before .before .before .before .before .before .before .before .before .before .before .before .before .before .before .before .before .pre .1) (c .before .before .before .before .before .before .before .before .before .before .before .before .before .before .before .before .before .before .before .opposed .ensures) (c .before .before .before .before .before .before .before .before .before .before .before .before .before .before .before .before .before .before .if1 .left) (c .before .before .before .before .before .before .before .before .before .before .before .before .before .before .before .before .before .agreeing .ensures) (c .before .before .before .before .before .before .before .before .before .before .before .before .before .before .before .before .if2 .left) (c .before .before .before .before .before .before .before .before .before .before .before .before .before .before .first-variable .ensures) (c .before .before .before .before .before .before .before .before .before .before .before .before .before .view-of .ensures) (c .before .before .before .before .before .before .before .before .before .before .before .before .view-of2 .ensures) ((c .before .before .before .sides-disjoint2 .ensures .right) s); listed = (c .before .before .before .sides-disjoint2 .ensures .listed); stays = (c .before .before .before .sides-disjoint2 .ensures .stays) }
 
 abbrev ranges-disjoint-Inv-loop : ranges-disjoint-lts.InvT-loop
-ranges-disjoint-Inv-loop nodes children cuts noted₀ a b ahead answer₀ i j₀ x k noted answer j = (answer ≡ true) × Beside (store nodes children cuts) noted₀ noted (Walked ahead (whole (store nodes children cuts)) children cuts a b i j)
+ranges-disjoint-Inv-loop nodes children cuts noted₀ a b ahead rest answer₀ more₀ i j₀ x k noted answer more j = (answer ≡ true) × Beside (store nodes children cuts) noted₀ noted rest more (Walked ahead (whole (store nodes children cuts)) children cuts a b i j)
 
 abbrev ranges-disjoint-μ-loop : ranges-disjoint-lts.MeasureT-loop
-ranges-disjoint-μ-loop nodes children cuts noted₀ a b ahead answer₀ i j₀ x k noted answer j = b .count - j
+ranges-disjoint-μ-loop nodes children cuts noted₀ a b ahead rest answer₀ more₀ i j₀ x k noted answer more j = b .count - j
 
 abbrev ranges-disjoint-Inv-left : ranges-disjoint-lts.InvT-left
-ranges-disjoint-Inv-left nodes children cuts noted₀ a b ahead answer₀ i₀ j₀ noted answer i j = (answer ≡ true) × Beside (store nodes children cuts) noted₀ noted (Turned ahead (whole (store nodes children cuts)) children cuts a b i j)
+ranges-disjoint-Inv-left nodes children cuts noted₀ a b ahead rest answer₀ more₀ i₀ j₀ noted answer more i j = (answer ≡ true) × Beside (store nodes children cuts) noted₀ noted rest more (Turned ahead (whole (store nodes children cuts)) children cuts a b i j)
 
 abbrev ranges-disjoint-μ-left : ranges-disjoint-lts.MeasureT-left
-ranges-disjoint-μ-left nodes children cuts noted₀ a b ahead answer₀ i₀ j₀ noted answer i j = a .count - i
+ranges-disjoint-μ-left nodes children cuts noted₀ a b ahead rest answer₀ more₀ i₀ j₀ noted answer more i j = a .count - i
 
 ranges-disjoint-left-holds : (t : ℕ) → ranges-disjoint-lts.Need-left-holds (ranges-disjoint-claims t)
     (ranges-disjoint-at t)
@@ -225,7 +249,7 @@ ranges-disjoint-left-holds : (t : ℕ) → ranges-disjoint-lts.Need-left-holds (
     ranges-disjoint-μ-loop
     ranges-disjoint-Inv-left
     ranges-disjoint-μ-left
-ranges-disjoint-left-holds t c = (refl, record { here = walk-starts (c .before .before .before .pre .1); listed = (c .before .before .before .pre .1 .listed); long = refl })
+ranges-disjoint-left-holds t c = (refl, record { here = walk-starts (c .before .before .before .pre .1); listed = (c .before .before .before .pre .1 .listed); long = refl; stays = λ l. refl })
 
 ranges-disjoint-child-requires : (t : ℕ) → ranges-disjoint-lts.Need-child-requires (ranges-disjoint-claims t)
     (ranges-disjoint-at t)
@@ -243,9 +267,7 @@ ranges-disjoint-cut-requires : (t : ℕ) → ranges-disjoint-lts.Need-cut-requir
     ranges-disjoint-μ-loop
     ranges-disjoint-Inv-left
     ranges-disjoint-μ-left
-ranges-disjoint-cut-requires t c κs =
-    let pre· = c .before .before .before .before .before .before .before .pre in
-    (cuts-inside (pre· .1 .listed .readable) (pre· .1 .left), (c .before .if1 .taken))
+ranges-disjoint-cut-requires t c κs = (cuts-inside (c .before .before .before .before .before .before .before .pre .1 .listed .readable) (c .before .before .before .before .before .before .before .pre .1 .left), (c .before .if1 .taken))
 
 ranges-disjoint-loop-holds : (t : ℕ) → ranges-disjoint-lts.Need-loop-holds (ranges-disjoint-claims t)
     (ranges-disjoint-at t)
@@ -254,9 +276,7 @@ ranges-disjoint-loop-holds : (t : ℕ) → ranges-disjoint-lts.Need-loop-holds (
     ranges-disjoint-μ-loop
     ranges-disjoint-Inv-left
     ranges-disjoint-μ-left
-ranges-disjoint-loop-holds t c =
-    let left· = c .before .before .before .before .left in
-    ((left· .inv .0), record { here = (left· .inv .1 .here .going) (c .before .before .if1 .taken); listed = (left· .inv .1 .listed); long = refl })
+ranges-disjoint-loop-holds t c = ((c .before .before .before .before .left .inv .0), record { here = (c .before .before .before .before .left .inv .1 .here .going) (c .before .before .if1 .taken); listed = (c .before .before .before .before .left .inv .1 .listed); long = refl; stays = (c .before .before .before .before .left .inv .1 .stays) })
 
 ranges-disjoint-child-requires-2 : (t : ℕ) → ranges-disjoint-lts.Need-child-requires-2 (ranges-disjoint-claims t)
     (ranges-disjoint-at t)
@@ -283,9 +303,7 @@ ranges-disjoint-cut-requires-2 : (t : ℕ) → ranges-disjoint-lts.Need-cut-requ
     ranges-disjoint-μ-loop
     ranges-disjoint-Inv-left
     ranges-disjoint-μ-left
-ranges-disjoint-cut-requires-2 t c κs =
-    let pre· = c .before .before .before .before .before .before .before .before .before .before .before .before .before .before .before .before .before .pre in
-    (cuts-inside (pre· .1 .listed .readable) (pre· .1 .right), (c .before .before .before .before .before .before .if2 .taken))
+ranges-disjoint-cut-requires-2 t c κs = (cuts-inside (c .before .before .before .before .before .before .before .before .before .before .before .before .before .before .before .before .before .before .pre .1 .listed .readable) (c .before .before .before .before .before .before .before .before .before .before .before .before .before .before .before .before .before .before .pre .1 .right), (c .before .before .before .before .before .before .before .if2 .taken))
 
 ranges-disjoint-add-j : (t : ℕ) → ranges-disjoint-lts.Need-add-j (ranges-disjoint-claims t)
     (ranges-disjoint-at t)
@@ -294,7 +312,7 @@ ranges-disjoint-add-j : (t : ℕ) → ranges-disjoint-lts.Need-add-j (ranges-dis
     ranges-disjoint-μ-loop
     ranges-disjoint-Inv-left
     ranges-disjoint-μ-left
-ranges-disjoint-add-j t c = record { fits = omega (arith, (c .before .before .before .before .before .before .before .before .if2 .taken), (c .before .before .before .before .before .before .before .before .before .before .before .before .before .before .before .before .before .before .before .pre .1 .right .most)) }
+ranges-disjoint-add-j t c = record { fits = omega (arith, (c .before .before .before .before .before .before .before .before .before .if2 .taken), (c .before .before .before .before .before .before .before .before .before .before .before .before .before .before .before .before .before .before .before .before .pre .1 .right .most)) }
 
 ranges-disjoint-loop-less : (t : ℕ) → ranges-disjoint-lts.Need-loop-less (ranges-disjoint-claims t)
     (ranges-disjoint-at t)
@@ -303,7 +321,7 @@ ranges-disjoint-loop-less : (t : ℕ) → ranges-disjoint-lts.Need-loop-less (ra
     ranges-disjoint-μ-loop
     ranges-disjoint-Inv-left
     ranges-disjoint-μ-left
-ranges-disjoint-loop-less t c = omega (arith, (c .before .before .before .before .before .before .before .before .before .if2 .taken))
+ranges-disjoint-loop-less t c = omega (arith, (c .before .before .before .before .before .before .before .before .before .before .if2 .taken))
 
 ranges-disjoint-loop-again : (t : ℕ) → ranges-disjoint-lts.Need-loop-again (ranges-disjoint-claims t)
     (ranges-disjoint-at t)
@@ -312,7 +330,7 @@ ranges-disjoint-loop-again : (t : ℕ) → ranges-disjoint-lts.Need-loop-again (
     ranges-disjoint-μ-loop
     ranges-disjoint-Inv-left
     ranges-disjoint-μ-left
-ranges-disjoint-loop-again t c = ((c .before .before .before .before .before .before .before .before .before .before .before .loop .inv .0), record { here = walk-right (c .before .before .before .before .before .before .before .before .before .before .before .before .before .before .before .before .before .before .before .before .pre .1) (c .before .before .before .before .before .before .before .before .before .before .before .before .before .before .if1 .taken) (c .before .before .before .before .before .before .before .before .before .before .before .loop .inv .1 .here) (c .before .before .before .before .before .before .before .before .before .before .before .before .before .child .ensures) (c .before .before .before .before .before .before .before .before .child2 .ensures) (c .before .before .before .before .before .before .is-disjoint .ensures .right) (not-false _ (c .before .before .before .if3 .left)) (c .before .before .before .before .before .before .before .before .before .before .before .before .cut .ensures) (c .before .before .cut2 .ensures) (omega (arith, (c .before .if4 .left), (c .if5 .left))); listed = (c .before .before .before .before .before .before .is-disjoint .ensures .listed); long = (c .before .before .before .before .before .before .is-disjoint .kept .1 .1 .1 .0) ∙ (c .before .before .before .before .before .before .before .before .before .before .before .loop .inv .1 .long) })
+ranges-disjoint-loop-again t c = ((c .before .before .before .before .before .before .before .before .before .before .before .before .loop .inv .0), record { here = walk-right (c .before .before .before .before .before .before .before .before .before .before .before .before .before .before .before .before .before .before .before .before .before .pre .1) (c .before .before .before .before .before .before .before .before .before .before .before .before .before .before .before .if1 .taken) (c .before .before .before .before .before .before .before .before .before .before .before .before .loop .inv .1 .here) (c .before .before .before .before .before .before .before .before .before .before .before .before .before .before .child .ensures) (c .before .before .before .before .before .before .before .before .before .child2 .ensures) ((c .before .before .before .before .before .before .before .is-disjoint .ensures .right) (inl (not-false _ (c .before .before .before .if3 .left)))) (not-false _ (c .before .before .before .if3 .left)) (c .before .before .before .before .before .before .before .before .before .before .before .before .before .cut .ensures) (c .before .before .cut2 .ensures) (omega (arith, (c .before .if4 .left), (c .if5 .left))); listed = (c .before .before .before .before .before .before .before .is-disjoint .ensures .listed); long = (c .before .before .before .before .before .before .before .is-disjoint .kept .1 .1 .1 .0) ∙ (c .before .before .before .before .before .before .before .before .before .before .before .before .loop .inv .1 .long); stays = λ l. (c .before .before .before .before .before .before .before .is-disjoint .ensures .stays) l ∙ (c .before .before .before .before .before .before .before .before .before .before .before .before .loop .inv .1 .stays) (omega (arith, l, (c .before .before .before .before .before .before .before .is-disjoint .kept .1 .1 .1 .0))) })
 
 ranges-disjoint-add-i : (t : ℕ) → ranges-disjoint-lts.Need-add-i (ranges-disjoint-claims t)
     (ranges-disjoint-at t)
@@ -339,7 +357,7 @@ ranges-disjoint-left-again : (t : ℕ) → ranges-disjoint-lts.Need-left-again (
     ranges-disjoint-μ-loop
     ranges-disjoint-Inv-left
     ranges-disjoint-μ-left
-ranges-disjoint-left-again t c = ((c .before .before .loop .inv .0), ⊎-elim (λ p. absurd (omega (arith, p .0 .left, (c .before .before .loop .inv .1 .here .inside)))) (λ o. ⊎-elim (λ p. beside-at _ (p .9) (p .3 .ensures .listed) ((p .3 .kept .1 .1 .1 .0) ∙ ((c .before .before .loop .inv .1 .long) ∙ (c .before .before .before .before .before .before .before .left .inv .1 .long))) (turned-at (p .10) (walk-left (c .before .before .before .before .before .before .before .before .before .before .before .pre .1) (c .before .before .before .before .before .if1 .taken) (c .before .before .loop .inv .1 .here) (c .before .before .before .before .child .ensures) (p .1 .ensures) (p .3 .ensures .right) (not-false _ (p .6 .left)) (c .before .before .before .cut .ensures) (p .7 .ensures) (p .8 .taken)))) (λ p. beside-at _ (p .10) (p .3 .ensures .listed) ((p .3 .kept .1 .1 .1 .0) ∙ ((c .before .before .loop .inv .1 .long) ∙ (c .before .before .before .before .before .before .before .left .inv .1 .long))) (turned-at (p .11) (walk-both (c .before .before .before .before .before .before .before .before .before .before .before .pre .1) (c .before .before .before .before .before .if1 .taken) (c .before .before .loop .inv .1 .here) (c .before .before .before .before .child .ensures) (p .1 .ensures) (p .3 .ensures .right) (not-false _ (p .6 .left)) (c .before .before .before .cut .ensures) (p .7 .ensures) (p .9 .taken)))) o) (c .if2 .came))
+ranges-disjoint-left-again t c = ((c .before .before .loop .inv .0), ⊎-elim (λ p. absurd (omega (arith, p .0 .left, (c .before .before .loop .inv .1 .here .inside)))) (λ o. ⊎-elim (λ p. beside-at _ (p .10) (p .11) (p .3 .ensures .listed) ((p .3 .kept .1 .1 .1 .0) ∙ ((c .before .before .loop .inv .1 .long) ∙ (c .before .before .before .before .before .before .before .left .inv .1 .long))) (λ l. (p .3 .ensures .stays) l ∙ (c .before .before .loop .inv .1 .stays) (omega (arith, l, p .3 .kept .1 .1 .1 .0))) (turned-at (p .12) (walk-left (c .before .before .before .before .before .before .before .before .before .before .before .pre .1) (c .before .before .before .before .before .if1 .taken) (c .before .before .loop .inv .1 .here) (c .before .before .before .before .child .ensures) (p .1 .ensures) ((p .3 .ensures .right) (inl (not-false _ (p .7 .left)))) (not-false _ (p .7 .left)) (c .before .before .before .cut .ensures) (p .8 .ensures) (p .9 .taken)))) (λ p. beside-at _ (p .11) (p .12) (p .3 .ensures .listed) ((p .3 .kept .1 .1 .1 .0) ∙ ((c .before .before .loop .inv .1 .long) ∙ (c .before .before .before .before .before .before .before .left .inv .1 .long))) (λ l. (p .3 .ensures .stays) l ∙ (c .before .before .loop .inv .1 .stays) (omega (arith, l, p .3 .kept .1 .1 .1 .0))) (turned-at (p .13) (walk-both (c .before .before .before .before .before .before .before .before .before .before .before .pre .1) (c .before .before .before .before .before .if1 .taken) (c .before .before .loop .inv .1 .here) (c .before .before .before .before .child .ensures) (p .1 .ensures) ((p .3 .ensures .right) (inl (not-false _ (p .7 .left)))) (not-false _ (p .7 .left)) (c .before .before .before .cut .ensures) (p .8 .ensures) (p .10 .taken)))) o) (c .if2 .came))
 
 ranges-disjoint-same-length : (t : ℕ) → ranges-disjoint-lts.Need-same-length (ranges-disjoint-claims t)
     (ranges-disjoint-at t)
@@ -357,7 +375,7 @@ ranges-disjoint-returns : (t : ℕ) → ranges-disjoint-lts.Need-returns (ranges
     ranges-disjoint-μ-loop
     ranges-disjoint-Inv-left
     ranges-disjoint-μ-left
-ranges-disjoint-returns t c = record { right = (c .before .before .left .inv .0) ∙ (c .before .before .left .inv .1 .here .over) (c .if1 .left); listed = (c .before .before .left .inv .1 .listed) }
+ranges-disjoint-returns t c = record { right = λ s. (c .before .before .left .inv .0) ∙ (c .before .before .left .inv .1 .here .over) (c .if1 .left); listed = (c .before .before .left .inv .1 .listed); stays = (c .before .before .left .inv .1 .stays) }
 
 ranges-disjoint-same-length-2 : (t : ℕ) → ranges-disjoint-lts.Need-same-length-2 (ranges-disjoint-claims t)
     (ranges-disjoint-at t)
@@ -366,7 +384,7 @@ ranges-disjoint-same-length-2 : (t : ℕ) → ranges-disjoint-lts.Need-same-leng
     ranges-disjoint-μ-loop
     ranges-disjoint-Inv-left
     ranges-disjoint-μ-left
-ranges-disjoint-same-length-2 t c = (c .before .before .before .is-disjoint .kept .1 .1 .1 .0) ∙ ((c .before .before .before .before .before .before .before .before .loop .inv .1 .long) ∙ (c .before .before .before .before .before .before .before .before .before .before .before .before .before .left .inv .1 .long))
+ranges-disjoint-same-length-2 t c = (c .before .before .before .before .is-disjoint .kept .1 .1 .1 .0) ∙ ((c .before .before .before .before .before .before .before .before .before .loop .inv .1 .long) ∙ (c .before .before .before .before .before .before .before .before .before .before .before .before .before .before .left .inv .1 .long))
 
 ranges-disjoint-returns-2 : (t : ℕ) → ranges-disjoint-lts.Need-returns-2 (ranges-disjoint-claims t)
     (ranges-disjoint-at t)
@@ -375,21 +393,27 @@ ranges-disjoint-returns-2 : (t : ℕ) → ranges-disjoint-lts.Need-returns-2 (ra
     ranges-disjoint-μ-loop
     ranges-disjoint-Inv-left
     ranges-disjoint-μ-left
-ranges-disjoint-returns-2 t c = record { right = walk-no (c .before .before .before .before .before .before .before .before .before .before .before .before .before .before .before .before .before .pre .1) (c .before .before .before .before .before .before .before .before .before .before .before .if1 .taken) (c .before .before .before .before .before .before .before .before .loop .inv .1 .here) (c .before .before .before .before .before .before .before .before .before .before .child .ensures) (c .before .before .before .before .before .child2 .ensures) (c .before .before .before .is-disjoint .ensures .right) (not-true _ (c .if3 .taken)); listed = (c .before .before .before .is-disjoint .ensures .listed) }
+ranges-disjoint-returns-2 t c = record { right = λ s. walk-no (c .before .before .before .before .before .before .before .before .before .before .before .before .before .before .before .before .before .before .pre .1) (c .before .before .before .before .before .before .before .before .before .before .before .before .if1 .taken) (c .before .before .before .before .before .before .before .before .before .loop .inv .1 .here) (c .before .before .before .before .before .before .before .before .before .before .before .child .ensures) (c .before .before .before .before .before .before .child2 .ensures) ((c .before .before .before .before .is-disjoint .ensures .right) (sure-no s)) (not-true _ (c .if3 .taken)); listed = (c .before .before .before .before .is-disjoint .ensures .listed); stays = λ l. (c .before .before .before .before .is-disjoint .ensures .stays) l ∙ (c .before .before .before .before .before .before .before .before .before .loop .inv .1 .stays) (omega (arith, l, (c .before .before .before .before .is-disjoint .kept .1 .1 .1 .0))) }
 
 sides-disjoint-ranges-disjoint-requires :
     (t : ℕ) → sides-disjoint-lts.Need-ranges-disjoint-requires (sides-disjoint-claims t) (sides-disjoint-at t) sides-disjoint.Post
 sides-disjoint-ranges-disjoint-requires t c κs = (omega (arith, (c .before .before .before .before .before .pre .0)), range-sides (c .before .before .before .before .before .pre .1) (c .before .if1 .taken))
 
+sides-disjoint-same-length : (t : ℕ) → sides-disjoint-lts.Need-same-length (sides-disjoint-claims t) (sides-disjoint-at t) sides-disjoint.Post
+sides-disjoint-same-length t c = search needs
+
 sides-disjoint-returns : (t : ℕ) → sides-disjoint-lts.Need-returns (sides-disjoint-claims t) (sides-disjoint-at t) sides-disjoint.Post
-sides-disjoint-returns t c = range-answer (c .before .before .before .before .before .before .before .before .pre .1) (c .before .before .before .before .if1 .taken) (c .before .before .ranges-disjoint .ensures)
+sides-disjoint-returns t c = record { right = λ s. range-answer (c .before .before .before .before .before .before .before .before .pre .1) (c .before .before .before .before .if1 .taken) ((c .before .before .ranges-disjoint .ensures .right) s); listed = (c .before .before .ranges-disjoint .ensures .listed); stays = (c .before .before .ranges-disjoint .ensures .stays) }
 
 sides-disjoint-booleans-disjoint-requires :
     (t : ℕ) → sides-disjoint-lts.Need-booleans-disjoint-requires (sides-disjoint-claims t) (sides-disjoint-at t) sides-disjoint.Post
 sides-disjoint-booleans-disjoint-requires t c κs = (omega (arith, (c .before .before .before .before .before .pre .0)), bool-sides (c .before .before .before .before .before .pre .1) (c .before .if1 .left))
 
+sides-disjoint-same-length-2 : (t : ℕ) → sides-disjoint-lts.Need-same-length-2 (sides-disjoint-claims t) (sides-disjoint-at t) sides-disjoint.Post
+sides-disjoint-same-length-2 t c = search needs
+
 sides-disjoint-returns-2 : (t : ℕ) → sides-disjoint-lts.Need-returns-2 (sides-disjoint-claims t) (sides-disjoint-at t) sides-disjoint.Post
-sides-disjoint-returns-2 t c = bool-answer (c .before .before .before .before .before .before .before .before .pre .1) (c .before .before .before .before .if1 .left) (c .before .before .booleans-disjoint .ensures)
+sides-disjoint-returns-2 t c = record { right = λ s. bool-answer (c .before .before .before .before .before .before .before .before .pre .1) (c .before .before .before .before .if1 .left) ((c .before .before .booleans-disjoint .ensures .right) s); listed = (c .before .before .booleans-disjoint .ensures .listed); stays = (c .before .before .booleans-disjoint .ensures .stays) }
 
 pub +booleans-disjoint+is-disjoint+ranges-disjoint+sides-disjoint-spec : {M : Type 1} → statement M
 +booleans-disjoint+is-disjoint+ranges-disjoint+sides-disjoint-spec =
@@ -398,46 +422,49 @@ pub +booleans-disjoint+is-disjoint+ranges-disjoint+sides-disjoint-spec : {M : Ty
     μ-is-disjoint
     μ-ranges-disjoint
     μ-sides-disjoint
-    (λ t. booleans-disjoint-lts.spec
-    (booleans-disjoint-claims t)
+    (λ t. booleans-disjoint-lts.spec (booleans-disjoint-claims t)
     (booleans-disjoint-at t)
     booleans-disjoint.Post
     (booleans-disjoint-child-requires t)
     (booleans-disjoint-child-requires-2 t)
     (booleans-disjoint-is-disjoint-requires t)
-    (λ c. search needs)
+    (booleans-disjoint-same-length t)
     (booleans-disjoint-returns t)
     (booleans-disjoint-sub-child t)
     (booleans-disjoint-child-requires-3 t)
     (booleans-disjoint-sub-child-2 t)
     (booleans-disjoint-child-requires-4 t)
     (booleans-disjoint-is-disjoint-requires-2 t)
-    (λ c. search needs)
+    (booleans-disjoint-same-length-2 t)
     (booleans-disjoint-returns-2 t))
-    (λ t. is-disjoint-lts.spec
-    (is-disjoint-claims t)
+    (λ t. is-disjoint-lts.spec (is-disjoint-claims t)
     (is-disjoint-at t)
     is-disjoint.Post
-    (λ c κs. search needs)
+    (is-disjoint-opposed-requires t)
     (is-disjoint-returns t)
-    (λ c κs. search needs)
+    (is-disjoint-agreeing-requires t)
     (is-disjoint-returns-2 t)
-    (λ c κs. search needs)
-    (is-disjoint-recall-requires t)
-    (λ c. search needs)
     (is-disjoint-returns-3 t)
     (is-disjoint-first-variable-requires t)
     (is-disjoint-view-of-requires t)
     (is-disjoint-view-of-requires-2 t)
     (is-disjoint-sub-sides-disjoint t)
+    (is-disjoint-sub-sides-disjoint-2 t)
     (is-disjoint-sides-disjoint-requires t)
-    (is-disjoint-remember-requires t)
-    (λ c. search needs)
+    (is-disjoint-same-length t)
     (is-disjoint-returns-4 t)
-    (λ c. search needs)
-    (is-disjoint-returns-5 t))
-    (λ t. ranges-disjoint-lts.spec
-    (ranges-disjoint-claims t)
+    (is-disjoint-in-order-requires t)
+    (is-disjoint-recall-requires t)
+    (is-disjoint-same-length-2 t)
+    (is-disjoint-returns-5 t)
+    (is-disjoint-sub-sides-disjoint-3 t)
+    (is-disjoint-sides-disjoint-requires-2 t)
+    (is-disjoint-remember-requires t)
+    (is-disjoint-same-length-3 t)
+    (is-disjoint-returns-6 t)
+    (is-disjoint-same-length-4 t)
+    (is-disjoint-returns-7 t))
+    (λ t. ranges-disjoint-lts.spec (ranges-disjoint-claims t)
     (ranges-disjoint-at t)
     ranges-disjoint.Post
     ranges-disjoint-Inv-loop
@@ -461,13 +488,12 @@ pub +booleans-disjoint+is-disjoint+ranges-disjoint+sides-disjoint-spec : {M : Ty
     (ranges-disjoint-returns t)
     (ranges-disjoint-same-length-2 t)
     (ranges-disjoint-returns-2 t))
-    λ t. sides-disjoint-lts.spec
-    (sides-disjoint-claims t)
+    λ t. sides-disjoint-lts.spec (sides-disjoint-claims t)
     (sides-disjoint-at t)
     sides-disjoint.Post
     (sides-disjoint-ranges-disjoint-requires t)
-    (λ c. search needs)
+    (sides-disjoint-same-length t)
     (sides-disjoint-returns t)
     (sides-disjoint-booleans-disjoint-requires t)
-    (λ c. search needs)
+    (sides-disjoint-same-length-2 t)
     (sides-disjoint-returns-2 t)
