@@ -4,9 +4,10 @@ ghost use mathlib.Core.Path.{_≡_};
 ghost use mathlib.Core.Bool.{_||_};
 ghost use lib.Dec.{eqb};
 ghost use Rattle.ids.specs.Id.{TRUE};
+ghost use Rattle.ids.specs.Index.{KnownTo};
 ghost use Rattle.diagram.specs.Table.{firstBoolean};
-ghost use Rattle.algebra.specs.Disjointness.{disjoint};
-ghost use Rattle.views.specs.Seeing.{seen};
+ghost use Rattle.algebra.specs.Disjointness.{disjoint, is-disjoint};
+ghost use Rattle.views.specs.Seeing.{usedIn, Readable, seen};
 ghost use Rattle.disjointness.specs.Asking.{whole, apart, AskedPair, AskedSides, Answers};
 ghost use Rattle.table.specs.Layout.{store};
 use ids::NodeId;
@@ -15,12 +16,54 @@ use memo::recall;
 use memo::remember;
 use table::limits::FIRST_BOOLEAN;
 use table::limits::MEMO_WORDS;
+use table::limits::VARIABLES;
 use views::View;
 use views::child;
 use views::cut;
 use views::first_variable;
 use views::opposed;
 use views::view_of;
+
+// So many pairs are looked at without a memo. Most calls need no more, and to set a memo up would cost them more than their walk.
+const FIRST_PAIRS: usize = 32;
+
+// The words of the memo. It is a local array, since no memo is lent; a pair that finds no place in it costs time alone.
+const NOTED_WORDS: usize = 512;
+
+// Whether no reading makes both ids true.
+pub fn is_disjoint(nodes: &[u32], children: &[u32], cuts: &[i64], x: NodeId, y: NodeId) -> bool
+    requires { ⌜ (Readable (store (now nodes) (now children) (now cuts)) (usedIn (now nodes))) × (KnownTo (usedIn (now nodes)) (x .0)) × (KnownTo (usedIn (now nodes)) (y .0)) ⌝ }
+    ensures { λ r. ⌜ r ≡ is-disjoint (whole (store (now (nodes .entry)) (now (children .entry)) (now (cuts .entry)))) (x .0) (y .0) ⌝ }
+{
+    let mut none = [0; 0];
+    let t = ids_disjoint(
+        nodes,
+        children,
+        cuts,
+        &mut none,
+        x,
+        y,
+        VARIABLES + 1,
+        FIRST_PAIRS,
+    );
+    if t.yes {
+        return true;
+    }
+    if 0 < t.rest {
+        return false;
+    }
+    noted_disjoint(nodes, children, cuts, x, y)
+}
+
+// The same from the start again, with a memo.
+fn noted_disjoint(nodes: &[u32], children: &[u32], cuts: &[i64], x: NodeId, y: NodeId) -> bool
+    requires { ⌜ (Readable (store (now nodes) (now children) (now cuts)) (usedIn (now nodes))) × (KnownTo (usedIn (now nodes)) (x .0)) × (KnownTo (usedIn (now nodes)) (y .0)) ⌝ }
+    ensures { λ r. ⌜ r ≡ is-disjoint (whole (store (now (nodes .entry)) (now (children .entry)) (now (cuts .entry)))) (x .0) (y .0) ⌝ }
+{
+    let mut noted = [0; NOTED_WORDS];
+    let t = ids_disjoint(nodes, children, cuts, &mut noted, x, y, VARIABLES + 1, 1);
+    t.yes
+}
 
 // One is TRUE, or they are equal: not disjoint, since the other is not FALSE.
 fn agreeing(x: NodeId, y: NodeId) -> bool
@@ -41,11 +84,11 @@ pub struct Tried {
     pub rest: usize,
 }
 
-// Whether no reading makes both ids true. "FALSE is disjoint with everything, itself included", so the test for opposed ids comes before
+// The walk. "FALSE is disjoint with everything, itself included", so the test for opposed ids comes before
 // the one for equal ids. `ahead` is more than the variables that are still ahead, and so more than the calls can nest.
-// With less than a set of words to note in, nothing is noted, and the walk gives up after `rest` pairs: most calls need no more, and such a
-// memo costs nothing to set up. With a set or more it goes on to the end, if `rest` is not 0.
-pub fn is_disjoint(
+// With less than a set of words to note in, nothing is noted, and the walk gives up after `rest` pairs. With a set or more it goes on to the
+// end, if `rest` is not 0.
+fn ids_disjoint(
     nodes: &[u32],
     children: &[u32],
     cuts: &[i64],
@@ -137,7 +180,7 @@ fn ranges_disjoint(
         let k = cut(cuts, a, i);
         while j < b.count {
             let y = child(children, b, j);
-            let t = is_disjoint(nodes, children, cuts, noted, x, y, ahead, more);
+            let t = ids_disjoint(nodes, children, cuts, noted, x, y, ahead, more);
             more = t.rest;
             if !t.yes {
                 answer = false;
@@ -178,11 +221,11 @@ fn booleans_disjoint(
     // High before low, as in the source. Nothing is made here, so no id depends on it.
     let x = child(children, a, 0);
     let y = child(children, b, 0);
-    let t = is_disjoint(nodes, children, cuts, noted, x, y, ahead, rest);
+    let t = ids_disjoint(nodes, children, cuts, noted, x, y, ahead, rest);
     if !t.yes {
         return t;
     }
     let x = child(children, a, a.count - 1);
     let y = child(children, b, b.count - 1);
-    is_disjoint(nodes, children, cuts, noted, x, y, ahead, t.rest)
+    ids_disjoint(nodes, children, cuts, noted, x, y, ahead, t.rest)
 }

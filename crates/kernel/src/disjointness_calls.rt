@@ -4,13 +4,9 @@ ghost use Rattle.table.specs.Layout.{store};
 use super::admission::both_known;
 use ids::NodeId;
 use table::calls::check;
-use table::limits::VARIABLES;
 use table::told::DONE;
 use table::told::Told;
 use table::told::UNKNOWN_ID;
-
-// The words of the memo. It is a local array, since the caller lends none; a pair that finds no place in it costs time alone.
-const NOTED_WORDS: usize = 512;
 
 // Whether no reading makes both ids true. "Disjointness and reading borrow no memo and change nothing."
 pub fn is_disjoint(
@@ -36,7 +32,6 @@ pub fn is_disjoint(
             yes: false,
         };
     }
-    let mut noted = [0; NOTED_WORDS];
-    let yes = disjointness::is_disjoint(nodes, children, cuts, &mut noted, x, y, VARIABLES + 1);
+    let yes = disjointness::is_disjoint(nodes, children, cuts, x, y);
     Told { number: DONE, yes }
 }

@@ -27,7 +27,7 @@ is-disjoint-requires : tie.Need-is-disjoint-requires
 is-disjoint-requires c κs =
     let p = passed-check-sound _ _ (c .before .before .before .before .before .check .ensures) (c .before .before .before .if1 .left) in
     let k = decided-true (c .before .before .both-known .ensures) (not-false _ (c .before .if2 .left)) in
-    sound-asked (p .1) 512 (omega arith) (omega arith) (p .0) (k .0) (k .1)
+    sound-asked (p .1) _ _ (p .0) (k .0) (k .1)
 
 returns-3 : tie.Need-returns-3
 returns-3 c =
