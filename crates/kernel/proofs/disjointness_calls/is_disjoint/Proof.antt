@@ -25,14 +25,14 @@ returns-2 c =
 
 is-disjoint-requires : tie.Need-is-disjoint-requires
 is-disjoint-requires c κs =
-    let p = passed-check-sound _ _ (c .before .before .before .before .before .check .ensures) (c .before .before .before .if1 .left) in
-    let k = decided-true (c .before .before .both-known .ensures) (not-false _ (c .before .if2 .left)) in
+    let p = passed-check-sound _ _ (c .before .before .before .before .check .ensures) (c .before .before .if1 .left) in
+    let k = decided-true (c .before .both-known .ensures) (not-false _ (c .if2 .left)) in
     sound-asked (p .1) _ _ (p .0) (k .0) (k .1)
 
 returns-3 : tie.Need-returns-3
 returns-3 c =
-    let p = passed-check-sound _ _ (c .before .before .before .before .before .before .before .check .ensures) (c .before .before .before .before .before .if1 .left) in
-    disjoint-it _ _ _ _ (p .0) (p .1) (decided-true (c .before .before .before .before .both-known .ensures) (not-false _ (c .before .before .before .if2 .left))) (sound-answer (p .1) _ _ (c .before .is-disjoint .ensures))
+    let p = passed-check-sound _ _ (c .before .before .before .before .before .check .ensures) (c .before .before .before .if1 .left) in
+    disjoint-it _ _ _ _ (p .0) (p .1) (decided-true (c .before .before .both-known .ensures) (not-false _ (c .before .if2 .left))) (sound-answer (p .1) _ _ (c .is-disjoint .ensures))
 
 pub is-disjoint-spec : {M : Type 1} → statement M
 is-disjoint-spec =
@@ -42,7 +42,5 @@ is-disjoint-spec =
     returns
     both-known-requires
     returns-2
-    (λ c. search needs)
-    (λ c. search needs)
     is-disjoint-requires
     returns-3)
