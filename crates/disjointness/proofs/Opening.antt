@@ -71,7 +71,7 @@ sure-no (inl h) = absurd (false≢true h)
 sure-no (inr h) = inr h
 
 -- what holds of two ids holds of them in order
-pub in-order : (P : ℕ → Type 0) {x y f g : ℕ} → Ordered x y f g → P x → P y → P f × P g
+in-order : (P : ℕ → Type 0) {x y f g : ℕ} → Ordered x y f g → P x → P y → P f × P g
 in-order P as-given p q = (p, q)
 in-order P turned p q = (q, p)
 
@@ -136,11 +136,11 @@ module _ {st : Store} {noted : List ℕ} {n x y : ℕ} (q : AskedPair st noted n
     recalled-yes {z} hx hy h = excluding-yes z answer (excluding-given t x y f g z w (hit-was-noted (q .listed .pairs) (omega (arith, in-order (λ z. 2 ≤ z) w hx hy .0)) h))
 
     -- a pair that is noted now
-    pub noted-listed : {noted′ noted″ : List ℕ} {z : ℕ} → Listed st noted′ → true ≡ disjoint n t x y → Noted noted′ f g z noted″ → Listed st noted″
-    noted-listed {z = z} l h o = record {
+    pub noted-listed : {noted′ noted″ : List ℕ} {z : ℕ} {yes : Bool} → Listed st noted′ → yes ≡ true → yes ≡ disjoint n t x y → Noted noted′ f g z noted″ → Listed st noted″
+    noted-listed {z = z} l h e o = record {
       readable = r;
       most = omega (arith, o .long, l .most);
-      pairs = noted-true (l .pairs) (excluding-ordered t x y f g z w (answer-yes answer (sym h))) o;
+      pairs = noted-true (l .pairs) (excluding-ordered t x y f g z w (answer-yes answer (sym e ∙ h))) o;
     }
 
   module _ {p g : Bool} (d : p ≡ Opposed x y) (o : p ≡ false) (e : g ≡ Agreeing x y) (h : g ≡ false) where

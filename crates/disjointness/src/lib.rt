@@ -36,7 +36,7 @@ pub fn is_disjoint(nodes: &[u32], children: &[u32], cuts: &[i64], x: NodeId, y: 
     ensures { λ r. ⌜ r ≡ is-disjoint (whole (store (now (nodes .entry)) (now (children .entry)) (now (cuts .entry)))) (x .0) (y .0) ⌝ }
 {
     let mut none = [0; 0];
-    let t = ids_disjoint(
+    let quick = ids_disjoint(
         nodes,
         children,
         cuts,
@@ -46,10 +46,10 @@ pub fn is_disjoint(nodes: &[u32], children: &[u32], cuts: &[i64], x: NodeId, y: 
         VARIABLES + 1,
         FIRST_PAIRS,
     );
-    if t.yes {
+    if quick.yes {
         return true;
     }
-    if 0 < t.rest {
+    if 0 < quick.rest {
         return false;
     }
     noted_disjoint(nodes, children, cuts, x, y)
@@ -78,16 +78,15 @@ fn agreeing(x: NodeId, y: NodeId) -> bool
     x.0 == y.0
 }
 
-// What a walk found. A no beside a rest of 0 is no answer: the walk gave up.
+// What a walk found. A no beside a rest of 0 is no answer: the walk may have given up.
 pub struct Tried {
     pub yes: bool,
     pub rest: usize,
 }
 
-// The walk. "FALSE is disjoint with everything, itself included", so the test for opposed ids comes before
-// the one for equal ids. `ahead` is more than the variables that are still ahead, and so more than the calls can nest.
-// With less than a set of words to note in, nothing is noted, and the walk gives up after `rest` pairs. With a set or more it goes on to the
-// end, if `rest` is not 0.
+// The walk. "FALSE is disjoint with everything, itself included", so the test for opposed ids comes before the one for equal ids. `ahead` is
+// more than the variables that are still ahead, and so more than the calls can nest. With less than a set of words to note in, nothing is
+// noted, and the walk gives up after `rest` pairs. With a set or more it goes on to the end, if `rest` is not 0.
 fn ids_disjoint(
     nodes: &[u32],
     children: &[u32],

@@ -1,5 +1,5 @@
 -- `ids_disjoint` meets its contract, with the functions that it goes down by. Assumes nothing.
-use mathlib.Core.Path.{_≡_, refl, sym, _∙_}
+use mathlib.Core.Path.{_≡_, refl, _∙_}
 use mathlib.Core.Bool.{true}
 use mathlib.Core.Logic.{inl, ⊎-elim}
 use Prim.Native.Nat.{ℕ, _+_, _-_, _*_, _<_}
@@ -217,7 +217,7 @@ ids-disjoint-remember-requires : (t : ℕ) → ids-disjoint-lts.Need-remember-re
 ids-disjoint-remember-requires t c κs = let i = ids-small (c .before .before .before .before .before .before .before .before .before .before .before .before .before .before .before .before .before .before .before .before .before .before .before .before .pre .1) (c .before .before .before .before .before .before .before .before .before .before .before .in-order .ensures) in (omega (arith, (c .before .before .before .before .before .before .before .before .before .before .before .before .if4 .left), (c .before .before .before .before .sides-disjoint2 .kept .1 .1 .1 .0)), (c .before .before .before .before .sides-disjoint2 .ensures .listed .most), (c .before .before .before .before .sides-disjoint2 .ensures .listed .pairs .framed), i .0, i .1, omega arith, variable-known (c .before .before .before .before .before .before .before .before .before .before .before .before .before .before .before .before .before .before .before .before .before .before .before .before .pre .1) (c .before .before .before .before .before .before .before .before .before .before .before .before .before .before .before .before .before .before .before .before .opposed .ensures) (c .before .before .before .before .before .before .before .before .before .before .before .before .before .before .before .before .before .before .before .if1 .left) (c .before .before .before .before .before .before .before .before .before .before .before .before .before .before .before .before .before .before .agreeing .ensures) (c .before .before .before .before .before .before .before .before .before .before .before .before .before .before .before .before .before .if2 .left) (c .before .before .before .before .before .before .before .before .before .before .before .before .before .before .before .first-variable .ensures) (c .before .before .before .before .before .before .before .before .before .before .before .before .before .before .view-of .ensures) (c .before .before .before .before .before .before .before .before .before .before .before .before .before .view-of2 .ensures))
 
 ids-disjoint-returns-6 : (t : ℕ) → ids-disjoint-lts.Need-returns-6 (ids-disjoint-claims t) (ids-disjoint-at t) ids-disjoint.Post
-ids-disjoint-returns-6 t c = record { right = λ s. sides-answer (c .before .before .before .before .before .before .before .before .before .before .before .before .before .before .before .before .before .before .before .before .before .before .before .before .before .before .before .pre .1) (c .before .before .before .before .before .before .before .before .before .before .before .before .before .before .before .before .before .before .before .before .before .before .before .opposed .ensures) (c .before .before .before .before .before .before .before .before .before .before .before .before .before .before .before .before .before .before .before .before .before .before .if1 .left) (c .before .before .before .before .before .before .before .before .before .before .before .before .before .before .before .before .before .before .before .before .before .agreeing .ensures) (c .before .before .before .before .before .before .before .before .before .before .before .before .before .before .before .before .before .before .before .before .if2 .left) (c .before .before .before .before .before .before .before .before .before .before .before .before .before .before .before .before .before .before .first-variable .ensures) (c .before .before .before .before .before .before .before .before .before .before .before .before .before .before .before .before .before .view-of .ensures) (c .before .before .before .before .before .before .before .before .before .before .before .before .before .before .before .before .view-of2 .ensures) ((c .before .before .before .before .before .before .before .sides-disjoint2 .ensures .right) s); listed = noted-listed (c .before .before .before .before .before .before .before .before .before .before .before .before .before .before .before .before .before .before .before .before .before .before .before .before .before .before .before .pre .1) (c .before .before .before .before .before .before .before .before .before .before .before .before .before .before .in-order .ensures) (c .before .before .before .before .before .before .before .sides-disjoint2 .ensures .listed) (sym (c .before .before .before .before .if6 .taken) ∙ sides-answer (c .before .before .before .before .before .before .before .before .before .before .before .before .before .before .before .before .before .before .before .before .before .before .before .before .before .before .before .pre .1) (c .before .before .before .before .before .before .before .before .before .before .before .before .before .before .before .before .before .before .before .before .before .before .before .opposed .ensures) (c .before .before .before .before .before .before .before .before .before .before .before .before .before .before .before .before .before .before .before .before .before .before .if1 .left) (c .before .before .before .before .before .before .before .before .before .before .before .before .before .before .before .before .before .before .before .before .before .agreeing .ensures) (c .before .before .before .before .before .before .before .before .before .before .before .before .before .before .before .before .before .before .before .before .if2 .left) (c .before .before .before .before .before .before .before .before .before .before .before .before .before .before .before .before .before .before .first-variable .ensures) (c .before .before .before .before .before .before .before .before .before .before .before .before .before .before .before .before .before .view-of .ensures) (c .before .before .before .before .before .before .before .before .before .before .before .before .before .before .before .before .view-of2 .ensures) ((c .before .before .before .before .before .before .before .sides-disjoint2 .ensures .right) (inl (c .before .before .before .before .if6 .taken)))) (c .before .before .remember .ensures); stays = λ l. (c .before .before .before .before .before .before .before .sides-disjoint2 .ensures .stays) (omega (arith, l, (c .before .before .remember .ensures .long))) }
+ids-disjoint-returns-6 t c = record { right = λ s. sides-answer (c .before .before .before .before .before .before .before .before .before .before .before .before .before .before .before .before .before .before .before .before .before .before .before .before .before .before .before .pre .1) (c .before .before .before .before .before .before .before .before .before .before .before .before .before .before .before .before .before .before .before .before .before .before .before .opposed .ensures) (c .before .before .before .before .before .before .before .before .before .before .before .before .before .before .before .before .before .before .before .before .before .before .if1 .left) (c .before .before .before .before .before .before .before .before .before .before .before .before .before .before .before .before .before .before .before .before .before .agreeing .ensures) (c .before .before .before .before .before .before .before .before .before .before .before .before .before .before .before .before .before .before .before .before .if2 .left) (c .before .before .before .before .before .before .before .before .before .before .before .before .before .before .before .before .before .before .first-variable .ensures) (c .before .before .before .before .before .before .before .before .before .before .before .before .before .before .before .before .before .view-of .ensures) (c .before .before .before .before .before .before .before .before .before .before .before .before .before .before .before .before .view-of2 .ensures) ((c .before .before .before .before .before .before .before .sides-disjoint2 .ensures .right) s); listed = noted-listed (c .before .before .before .before .before .before .before .before .before .before .before .before .before .before .before .before .before .before .before .before .before .before .before .before .before .before .before .pre .1) (c .before .before .before .before .before .before .before .before .before .before .before .before .before .before .in-order .ensures) (c .before .before .before .before .before .before .before .sides-disjoint2 .ensures .listed) (c .before .before .before .before .if6 .taken) (sides-answer (c .before .before .before .before .before .before .before .before .before .before .before .before .before .before .before .before .before .before .before .before .before .before .before .before .before .before .before .pre .1) (c .before .before .before .before .before .before .before .before .before .before .before .before .before .before .before .before .before .before .before .before .before .before .before .opposed .ensures) (c .before .before .before .before .before .before .before .before .before .before .before .before .before .before .before .before .before .before .before .before .before .before .if1 .left) (c .before .before .before .before .before .before .before .before .before .before .before .before .before .before .before .before .before .before .before .before .before .agreeing .ensures) (c .before .before .before .before .before .before .before .before .before .before .before .before .before .before .before .before .before .before .before .before .if2 .left) (c .before .before .before .before .before .before .before .before .before .before .before .before .before .before .before .before .before .before .first-variable .ensures) (c .before .before .before .before .before .before .before .before .before .before .before .before .before .before .before .before .before .view-of .ensures) (c .before .before .before .before .before .before .before .before .before .before .before .before .before .before .before .before .view-of2 .ensures) ((c .before .before .before .before .before .before .before .sides-disjoint2 .ensures .right) (inl (c .before .before .before .before .if6 .taken)))) (c .before .before .remember .ensures); stays = λ l. (c .before .before .before .before .before .before .before .sides-disjoint2 .ensures .stays) (omega (arith, l, (c .before .before .remember .ensures .long))) }
 
 ids-disjoint-returns-7 : (t : ℕ) → ids-disjoint-lts.Need-returns-7 (ids-disjoint-claims t) (ids-disjoint-at t) ids-disjoint.Post
 ids-disjoint-returns-7 t c = record { right = λ s. sides-answer (c .before .before .before .before .before .before .before .before .before .before .before .before .before .before .before .before .before .before .before .before .before .before .before .pre .1) (c .before .before .before .before .before .before .before .before .before .before .before .before .before .before .before .before .before .before .before .opposed .ensures) (c .before .before .before .before .before .before .before .before .before .before .before .before .before .before .before .before .before .before .if1 .left) (c .before .before .before .before .before .before .before .before .before .before .before .before .before .before .before .before .before .agreeing .ensures) (c .before .before .before .before .before .before .before .before .before .before .before .before .before .before .before .before .if2 .left) (c .before .before .before .before .before .before .before .before .before .before .before .before .before .before .first-variable .ensures) (c .before .before .before .before .before .before .before .before .before .before .before .before .before .view-of .ensures) (c .before .before .before .before .before .before .before .before .before .before .before .before .view-of2 .ensures) ((c .before .before .before .sides-disjoint2 .ensures .right) s); listed = (c .before .before .before .sides-disjoint2 .ensures .listed); stays = (c .before .before .before .sides-disjoint2 .ensures .stays) }
