@@ -17,7 +17,7 @@ struct Held {
     children: Vec<u32>,
     cuts: Vec<i64>,
     index: Vec<u32>,
-    memo: Vec<u32>,
+    memo: Vec<u64>,
     places: [i64; 32],
 }
 
@@ -29,7 +29,7 @@ fn lend(places: [i64; 32], n: &[i64; 6]) -> Held {
         children: vec![0; at_most(16385, n[1])],
         cuts: vec![0; at_most(16385, n[2])],
         index: vec![0; at_most(8194, n[3])],
-        memo: vec![0; at_most(12291, n[4])],
+        memo: vec![0; at_most(32776, n[4])],
         places,
     }
 }
@@ -69,7 +69,12 @@ fn poke(h: &mut Held, n: &[i64; 6]) {
         0 => &mut h.nodes,
         1 => &mut h.children,
         3 => &mut h.index,
-        4 => &mut h.memo,
+        4 => {
+            if let Some(word) = h.memo.get_mut(n[1] as usize) {
+                *word = n[2] as u64;
+            }
+            return;
+        }
         _ => {
             if let Some(cut) = h.cuts.get_mut(n[1] as usize) {
                 *cut = n[2];

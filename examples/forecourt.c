@@ -12,18 +12,20 @@
 #define MONTH 1u
 #define NOZZLE 32u
 
-// Room for 16 nodes and 64 edges: 1,152 bytes of table and 192 of memo. Static memory is zero, so the table is empty at the start.
+// Room for 16 nodes and 64 edges: 1,152 bytes of table. The memo may have 1 to 16 sets, and has 4: 256 bytes. Static memory is zero, so the
+// table is empty at the start.
 #define NODES 16u
 #define EDGES 64u
+#define SETS 4u
 static uint32_t nodes[SPANWHISTLE_NODE_WORDS(NODES)];
 static uint32_t children[EDGES];
 static int64_t cuts[EDGES];
 static uint32_t index_words[SPANWHISTLE_INDEX_WORDS(NODES)];
-static uint32_t memo[SPANWHISTLE_MEMO_WORDS(NODES)];
+static uint64_t memo[SPANWHISTLE_MEMO_WORDS(SETS)];
 static const spanwhistle_table forecourt = {
     nodes, SPANWHISTLE_NODE_WORDS(NODES), children, EDGES, cuts, EDGES, index_words, SPANWHISTLE_INDEX_WORDS(NODES),
 };
-#define MEMO memo, SPANWHISTLE_MEMO_WORDS(NODES)
+#define MEMO memo, SPANWHISTLE_MEMO_WORDS(SETS)
 
 #define RULES 4
 static const char *const names[RULES] = {

@@ -14,7 +14,7 @@
 #define PAINT 0xA5
 
 static uint32_t nodes[SPANWHISTLE_NODE_WORDS(ROOM)], children[EDGES], index_words[SPANWHISTLE_INDEX_WORDS(ROOM)];
-static uint32_t memo[SPANWHISTLE_MEMO_WORDS(ROOM)];
+static uint64_t memo[SPANWHISTLE_MEMO_WORDS(ROOM)];
 static int64_t cuts[EDGES], places[SPANWHISTLE_RANGE_VARIABLES];
 #define LENT nodes, SPANWHISTLE_NODE_WORDS(ROOM), children, EDGES, cuts, EDGES, index_words, SPANWHISTLE_INDEX_WORDS(ROOM)
 #define MEMO memo, SPANWHISTLE_MEMO_WORDS(ROOM)

@@ -1,7 +1,8 @@
 /*
  * Spanwhistle: compares the conditions of correction rules exactly. This header is for C99 and C++; link target/staticlib/libspanwhistle.a,
  * which `rt staticlib spanwhistle` makes, or `tools/install` with a pkg-config file. The archive needs memcpy and memset and nothing else. It
- * has 29 KB of code and constants, if all calls are linked, and no data (28,726, 0 and 0 bytes of text, data and bss by `size`, x86-64).
+ * has 29 KB of code and constants, if all calls are linked, and no data (28,726, 0 and 0 bytes of text, data and bss by `size`, x86-64;
+ * TODO-MEASURE).
  *
  * WHAT A TABLE IS
  *
@@ -13,8 +14,10 @@
  *     children  E                           uint32_t   where each edge leads
  *     cuts      E                           int64_t    where each edge ends
  *     index     SPANWHISTLE_INDEX_WORDS(R)  uint32_t   finds a node by what it holds
- *     memo      SPANWHISTLE_MEMO_WORDS(R)   uint32_t   scratch: never believed, and all zero after a call that used it
+ *     memo      SPANWHISTLE_MEMO_WORDS(S)   uint64_t   scratch: never believed, and all zero after a call that used it
  *
+ * S, the number of sets of the memo, is yours to choose: 1 to R. No answer goes by it. A memo of R sets is quickest for large conditions;
+ * a call writes every word of its memo, so that a shorter one is quicker for small conditions, and takes less memory: 64 bytes a set.
  * Memory that is all zero is an empty table; spanwhistle_fresh makes one of any memory. docs/LAYOUT.md tells every word.
  * Lengths are the only thing that says how large a table is: nothing is kept anywhere else, so nothing else can be wrong.
  * The words are in the machine's own byte order: a table that was written on a machine of the other order is another table, and is
@@ -58,7 +61,8 @@
  * (`and` and `or` at range variables alone). They need a deep stack. Enough in our deepest test were 91,544 bytes for `restrict`, 83,432
  * for `and` and `or`, 53,112 for `widen`, 48,968 for `narrow`, 11,336 for `is_disjoint`, 2,616 for a condition and 400 for the rest. The
  * test is examples/stack.c: conditions over all 64 variables, on x86-64 with this project's compiler. It is measured and not proved, and
- * another machine has other figures. SPANWHISTLE_STACK_JOIN and the like are these, rounded up. Conditions that test fewer variables take less:
+ * another machine has other figures (TODO-MEASURE: all of them). SPANWHISTLE_STACK_JOIN and the like are these, rounded up. Conditions that
+ * test fewer variables take less:
  *
  *     variables         2       4       8      16      32      64
  *     and, or       3,848   7,784  15,656  31,400  62,888  83,432
@@ -84,9 +88,9 @@ extern "C" {
 /* The version of this header and of its archive. The last number rises where nothing changes that a caller sees, the middle one where
    something is added, the first where callers have to change. Before 1.0 the middle one rises for either. */
 #define SPANWHISTLE_VERSION_MAJOR 0
-#define SPANWHISTLE_VERSION_MINOR 2
+#define SPANWHISTLE_VERSION_MINOR 3
 #define SPANWHISTLE_VERSION_PATCH 0
-#define SPANWHISTLE_VERSION "0.2.0"
+#define SPANWHISTLE_VERSION "0.3.0"
 
 /* A number that nobody looks at may be a refusal: compilers that can warn of it do. */
 #if defined(__GNUC__)
@@ -118,14 +122,14 @@ static inline const char *spanwhistle_name(uint32_t number) {
     }
 }
 
-/* Rooms: the most that a table may have, the least, and the lengths of its arrays for room for R nodes. */
+/* Rooms: the most that a table may have, the least, and the lengths of its arrays for room for R nodes; of a memo of S sets, 1 to R. */
 #define SPANWHISTLE_MOST_NODES 4096u
 #define SPANWHISTLE_MOST_EDGES 16384u
 #define SPANWHISTLE_LEAST_NODES 1u
 #define SPANWHISTLE_LEAST_EDGES 2u
 #define SPANWHISTLE_NODE_WORDS(R) (4u * (R))
 #define SPANWHISTLE_INDEX_WORDS(R) (2u * (R))
-#define SPANWHISTLE_MEMO_WORDS(R) (3u * (R))
+#define SPANWHISTLE_MEMO_WORDS(S) (8u * (S))
 
 /* Variables: ranges are 0 to 31, booleans 32 to 63. */
 #define SPANWHISTLE_RANGE_VARIABLES 32u
@@ -146,7 +150,7 @@ static inline const char *spanwhistle_name(uint32_t number) {
 #define SPANWHISTLE_INCLUDES 1u
 #define SPANWHISTLE_EXCLUDES 2u
 
-/* Stack in bytes, measured and rounded up: see above. */
+/* Stack in bytes, measured and rounded up: see above. TODO-MEASURE */
 #define SPANWHISTLE_STACK_JOIN (88u * 1024u)     /* spanwhistle_and, spanwhistle_or */
 #define SPANWHISTLE_STACK_RESTRICT (96u * 1024u) /* spanwhistle_restrict */
 #define SPANWHISTLE_STACK_NARROW (56u * 1024u)   /* spanwhistle_narrow, spanwhistle_widen */
@@ -154,7 +158,7 @@ static inline const char *spanwhistle_name(uint32_t number) {
 #define SPANWHISTLE_STACK_CONDITION (3u * 1024u) /* the six comparisons, spanwhistle_from_range, spanwhistle_from_bool */
 #define SPANWHISTLE_STACK_READ 1024u             /* spanwhistle_check, spanwhistle_fresh, spanwhistle_evaluate, spanwhistle_not */
 
-/* The same where the conditions test no more than V variables between them. */
+/* The same where the conditions test no more than V variables between them. TODO-MEASURE */
 #define SPANWHISTLE_STACK_JOIN_OF(V) (512u + 2000u * (V))
 #define SPANWHISTLE_STACK_RESTRICT_OF(V) (2048u + 1440u * (V))
 #define SPANWHISTLE_STACK_NARROW_OF(V) (6144u + 1456u * (V))
@@ -220,6 +224,7 @@ uint32_t spanwhistle_evaluate(SPANWHISTLE_SHOWS, const int64_t *places, size_t p
  */
 SPANWHISTLE_MUST_USE
 uint32_t spanwhistle_equal(SPANWHISTLE_LENDS, uint32_t variable, int32_t key, uint32_t *id);
+SPANWHISTLE_MUST_USE
 uint32_t spanwhistle_not_equal(SPANWHISTLE_LENDS, uint32_t variable, int32_t key, uint32_t *id);
 SPANWHISTLE_MUST_USE
 uint32_t spanwhistle_less_than(SPANWHISTLE_LENDS, uint32_t variable, int32_t key, uint32_t *id);
@@ -256,16 +261,16 @@ uint32_t spanwhistle_not(uint32_t id);
 
 /*
  * The condition that both x and y hold, and the condition that at least one of them does.
- * Each returns 0, or 1 (also where memo_len is not 3 words a node), 2, 3 or 6. Each writes the id, SPANWHISTLE_FALSE beside a refusal.
- * Beside 0 it adds to the table the nodes of the answer that are missing, and no other. Beside 0 and 6 the memo is all zero after the call;
+ * Each returns 0, or 1 (also where the memo is not 1 to R whole sets of eight words), 2, 3 or 6. Each writes the id, SPANWHISTLE_FALSE beside
+ * a refusal. Beside 0 it adds to the table the nodes of the answer that are missing, and no other. Beside 0 and 6 the memo is all zero after the call;
  * beside another refusal it is as it was.
- * The memo has one entry a node of the room, and entries overwrite one another: on tables built for it a call can take seconds (15.7 is the
- * worst that is known, on 2,845 nodes in room for 4,096). The calls below that are lent a memo use it alike; no worst of them is known.
+ * The memo has up to eight entries a set, and entries overwrite one another: on tables built for it a call can take long (TODO-MEASURE: the
+ * worst that is known). The calls below that are lent a memo use it alike; no worst of them is known.
  */
 SPANWHISTLE_MUST_USE
-uint32_t spanwhistle_and(SPANWHISTLE_LENDS, uint32_t *memo, size_t memo_len, uint32_t x, uint32_t y, uint32_t *id);
+uint32_t spanwhistle_and(SPANWHISTLE_LENDS, uint64_t *memo, size_t memo_len, uint32_t x, uint32_t y, uint32_t *id);
 SPANWHISTLE_MUST_USE
-uint32_t spanwhistle_or(SPANWHISTLE_LENDS, uint32_t *memo, size_t memo_len, uint32_t x, uint32_t y, uint32_t *id);
+uint32_t spanwhistle_or(SPANWHISTLE_LENDS, uint64_t *memo, size_t memo_len, uint32_t x, uint32_t y, uint32_t *id);
 
 /*
  * Are x and y apart, so that no reading makes both hold? Two rules whose conditions are apart never correct the same delivery.
@@ -283,7 +288,7 @@ uint32_t spanwhistle_is_disjoint(SPANWHISTLE_SHOWS, uint32_t x, uint32_t y, uint
  * Returns 0, or 1, 2, 3, 4 (variable 64 or more) or 6. Writes as spanwhistle_and does.
  */
 SPANWHISTLE_MUST_USE
-uint32_t spanwhistle_restrict(SPANWHISTLE_LENDS, uint32_t *memo, size_t memo_len, uint32_t x, uint32_t variable, uint32_t value,
+uint32_t spanwhistle_restrict(SPANWHISTLE_LENDS, uint64_t *memo, size_t memo_len, uint32_t x, uint32_t variable, uint32_t value,
                               uint32_t *id);
 
 /*
@@ -292,7 +297,7 @@ uint32_t spanwhistle_restrict(SPANWHISTLE_LENDS, uint32_t *memo, size_t memo_len
  * Returns 0, or 1, 2, 3, 4 (no range variable: 32 or more) or 6. Writes as spanwhistle_and does.
  */
 SPANWHISTLE_MUST_USE
-uint32_t spanwhistle_narrow(SPANWHISTLE_LENDS, uint32_t *memo, size_t memo_len, uint32_t x, uint32_t variable, uint32_t lower_kind,
+uint32_t spanwhistle_narrow(SPANWHISTLE_LENDS, uint64_t *memo, size_t memo_len, uint32_t x, uint32_t variable, uint32_t lower_kind,
                             int32_t lower_key, uint32_t upper_kind, int32_t upper_key, uint32_t *id);
 
 /*
@@ -300,7 +305,7 @@ uint32_t spanwhistle_narrow(SPANWHISTLE_LENDS, uint32_t *memo, size_t memo_len, 
  * Bounds that hold no place give FALSE. Returns and writes as spanwhistle_narrow does.
  */
 SPANWHISTLE_MUST_USE
-uint32_t spanwhistle_widen(SPANWHISTLE_LENDS, uint32_t *memo, size_t memo_len, uint32_t x, uint32_t variable, uint32_t lower_kind,
+uint32_t spanwhistle_widen(SPANWHISTLE_LENDS, uint64_t *memo, size_t memo_len, uint32_t x, uint32_t variable, uint32_t lower_kind,
                            int32_t lower_key, uint32_t upper_kind, int32_t upper_key, uint32_t *id);
 
 #ifdef __cplusplus

@@ -6,10 +6,11 @@ use std::ops::Bound;
 use source::ranges::{HIGHEST, LOWEST};
 use source::stand_ins::MarkerOperator;
 
+use crate::damage;
 use crate::model::{Answer, Model};
 use crate::operation::{Bounds, Operation, Operation::*};
 use crate::random::Random;
-use crate::words::Room;
+use crate::words::{memo_entry, memo_head, memo_set, Room};
 
 const OPERATORS: [MarkerOperator; 6] = [
     MarkerOperator::Equal,
@@ -111,10 +112,17 @@ impl<'r> Composer<'r> {
         }
     }
 
+    /// Lends a room. No answer goes by the memo's length, so that is any that is allowed: the shortest and the longest often.
     pub fn lend(&mut self, room: Room) {
-        self.put(Lend {
-            lengths: room.lengths(),
-        });
+        let sets = match self.random.below(4) {
+            0 => 1,
+            1 => room.nodes.min(8),
+            2 => self.random.between(1, room.nodes),
+            _ => room.nodes,
+        };
+        let mut lengths = room.lengths();
+        lengths[4] = Room::memo_of(sets);
+        self.put(Lend { lengths });
         self.ids.clear();
     }
 
@@ -342,29 +350,30 @@ impl<'r> Composer<'r> {
         }
     }
 
-    /// An entry that a memo which is believed would answer by, and any other word.
+    /// A head and an entry that a memo which is believed would answer by, and any other word.
     pub fn junk_in_memo(&mut self, call: &Operation) {
-        let room = match self.model.words().room() {
-            Some(room) => room,
-            None => return,
-        };
+        let sets = Room::sets_of(self.model.words().memo.len());
+        if sets == 0 {
+            return;
+        }
         let (x, y) = match *call {
-            And { x, y } => (x, y),
-            Or { x, y } => (x ^ 1, y ^ 1),
+            And { x, y } => (x.min(y), x.max(y)),
+            Or { x, y } => ((x ^ 1).min(y ^ 1), (x ^ 1).max(y ^ 1)),
             Restrict { id, .. } | Narrow { id, .. } | Widen { id, .. } => (id, 0),
             _ => return,
         };
-        let slot = room.memo_slot(x, y);
-        let wrong = self.id();
-        for (word, value) in [x, y, wrong].into_iter().enumerate() {
-            self.put(Poke {
-                slice: 4,
-                word: slot + word,
-                value: i64::from(value),
-            });
-        }
-        let word = self.random.below(3 * room.nodes);
-        let value = i64::from(self.random.bits() as u32);
+        let in_use = self.random.pick(&[1, sets]);
+        let head = memo_head(in_use, self.random.below(3) as u64);
+        self.junk_word(0, head);
+        let word = memo_set(x, y, in_use) + self.random.between(1, 7);
+        let entry = memo_entry(self.random.below(192) as u64, x, y, self.id());
+        self.junk_word(word, entry);
+        let word = self.random.below(Room::memo_of(sets));
+        let value = damage::value(self.random, 4, entry);
+        self.junk_word(word, value);
+    }
+
+    fn junk_word(&mut self, word: usize, value: i64) {
         self.put(Poke {
             slice: 4,
             word,

@@ -11,7 +11,6 @@ use crate::words::{Record, Words};
 
 /// A value to put in the place of a word.
 pub fn value(random: &mut Random, slice: usize, old: i64) -> i64 {
-    let narrow = slice != 2;
     let value = match random.below(10) {
         0 => 0,
         1 => 1,
@@ -24,10 +23,11 @@ pub fn value(random: &mut Random, slice: usize, old: i64) -> i64 {
         8 => random.bits() as i64,
         _ => random.below(20) as i64,
     };
-    if narrow {
-        i64::from(value as u32)
-    } else {
-        value
+    match slice {
+        2 => value,
+        // Words of 64 bits; a line writes those below 2^63.
+        4 => value & i64::MAX,
+        _ => i64::from(value as u32),
     }
 }
 

@@ -85,6 +85,20 @@ impl Composer<'_> {
         }
     }
 
+    /// b) Many booleans: conjunctions of so many pairs that the memo takes more of its sets, or has too few.
+    pub fn tall(&mut self) {
+        let booleans = self.random.between(12, 20);
+        self.choose(0, booleans);
+        self.lend(Room {
+            nodes: 400,
+            edges: 800,
+        });
+        self.tower();
+        for _ in 0..self.times(2, 8) {
+            self.step();
+        }
+    }
+
     /// From the last boolean to the first, "if the boolean, then this, else that" over what was made so far: nodes whose children both have
     /// nodes below them, so that a change or a conjunction of them makes nodes on either side. The steps behind it take these alone.
     fn tower(&mut self) {
@@ -348,6 +362,8 @@ fn lengths(random: &mut Random) -> [usize; SLICES] {
             0,
             old + 4,
             old.saturating_sub(4),
+            old + 8,
+            old.saturating_sub(8),
             old,
         ]);
     }

@@ -33,9 +33,10 @@ use random::Random;
 /// A kind of sequence, and how often it comes.
 type Kind = (usize, fn(&mut Composer<'_>));
 
-const KINDS: [Kind; 7] = [
+const KINDS: [Kind; 8] = [
     (30, |composer| composer.general()),
     (21, |composer| composer.booleans()),
+    (2, |composer| composer.tall()),
     (21, |composer| composer.small_rooms()),
     (2, |composer| composer.wide()),
     (12, |composer| composer.damaged()),

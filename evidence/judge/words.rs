@@ -12,16 +12,20 @@ pub const HELD: [usize; SLICES] = [
     16384 + 1,
     16384 + 1,
     2 * 4096 + 2,
-    3 * 4096 + 3,
+    8 * 4096 + 8,
 ];
 
 /// The largest room.
 pub const MOST_NODES: usize = 4096;
 pub const MOST_EDGES: usize = 16384;
 
-/// The words of one record, and of one memo entry.
+/// The words of one record, and of one set of the memo.
 const RECORD: usize = 4;
-const ENTRY: usize = 3;
+const SET: usize = 8;
+
+/// An id in a word of the memo, and the place of an entry's rank, which stands before two ids and an answer.
+const ID_BITS: u32 = 18;
+const RANK_AT: u32 = 3 * ID_BITS;
 
 /// The factors of both hashes.
 const FACTOR: u32 = 1_640_531_527;
@@ -35,7 +39,7 @@ pub struct Room {
 }
 
 impl Room {
-    /// The lengths of the five slices.
+    /// The lengths of the five slices, the memo as long as it may be.
     pub fn lengths(self) -> [usize; SLICES] {
         let index = 2 * self.nodes;
         [
@@ -43,22 +47,48 @@ impl Room {
             self.edges,
             self.edges,
             index,
-            ENTRY * self.nodes,
+            SET * self.nodes,
         ]
     }
 
     /// Where a hash goes, of as many buckets as there is room for nodes.
     fn bucket(self, hash: u32) -> usize {
-        ((u64::from(hash) * self.nodes as u64) >> 32) as usize
+        scaled(hash, self.nodes)
     }
 
-    /// The first word of the memo entry of a pair of ids.
-    pub fn memo_slot(self, x: u32, y: u32) -> usize {
-        let hash = x
-            .wrapping_mul(FACTOR)
-            .wrapping_add(y.wrapping_mul(CHILD_FACTOR));
-        ENTRY * self.bucket(hash)
+    /// The length of a memo of so many sets.
+    pub fn memo_of(sets: usize) -> usize {
+        SET * sets
     }
+
+    /// How many whole sets a memo of so many words has.
+    pub fn sets_of(words: usize) -> usize {
+        words / SET
+    }
+}
+
+/// A hash of 32 bits, scaled to a number.
+fn scaled(hash: u32, to: usize) -> usize {
+    ((u64::from(hash) * to as u64) >> 32) as usize
+}
+
+/// The head of a memo: so many sets in use, so many answers counted.
+pub fn memo_head(sets: usize, answers: u64) -> i64 {
+    ((sets as u64) << ID_BITS | answers) as i64
+}
+
+/// The first word of the set of a pair of ids, of so many sets.
+pub fn memo_set(x: u32, y: u32, sets: usize) -> usize {
+    let hash = x
+        .wrapping_mul(FACTOR)
+        .wrapping_add(y.wrapping_mul(CHILD_FACTOR));
+    SET * scaled(hash, sets)
+}
+
+/// The entry of a pair of ids and its answer.
+pub fn memo_entry(rank: u64, x: u32, y: u32, answer: u32) -> i64 {
+    let ids = u64::from(x) << (2 * ID_BITS) | u64::from(y) << ID_BITS | u64::from(answer);
+    (rank << RANK_AT | ids) as i64
 }
 
 /// A node: its variable and its edges.
@@ -90,7 +120,7 @@ pub struct Words {
     pub children: Vec<u32>,
     pub cuts: Vec<i64>,
     pub index: Vec<u32>,
-    pub memo: Vec<u32>,
+    pub memo: Vec<u64>,
 }
 
 impl Words {
@@ -122,9 +152,10 @@ impl Words {
         }
     }
 
-    /// Whether the memo is as long as the room asks.
+    /// Whether the memo is whole sets, at least one and at most one a record.
     pub fn memo_fits(&self, room: Room) -> bool {
-        self.memo.len() == room.lengths()[4]
+        let sets = Room::sets_of(self.memo.len());
+        self.memo.len() == Room::memo_of(sets) && (1..=room.nodes).contains(&sets)
     }
 
     /// How many words are lent.
@@ -140,7 +171,7 @@ impl Words {
             1 => &self.children,
             2 => return self.cuts.get(word).copied(),
             3 => &self.index,
-            _ => &self.memo,
+            _ => return self.memo.get(word).map(|word| *word as i64),
         };
         narrow.get(word).copied().map(i64::from)
     }
@@ -157,7 +188,12 @@ impl Words {
                 return;
             }
             3 => &mut self.index,
-            _ => &mut self.memo,
+            _ => {
+                if let Some(place) = self.memo.get_mut(word) {
+                    *place = value as u64;
+                }
+                return;
+            }
         };
         if let Some(place) = narrow.get_mut(word) {
             *place = value as u32;

@@ -28,19 +28,30 @@ pub struct OwnedTable {
     children: Vec<u32>,
     cuts: Vec<i64>,
     index: Vec<u32>,
-    memo: Vec<u32>,
+    memo: Vec<u64>,
 }
 
 impl OwnedTable {
-    /// An empty table with this much room.
+    /// An empty table with this much room, and the longest memo that goes with it.
     ///
     /// # Errors
     ///
     /// `BadLength`, where a table may not have this room. Then nothing is allocated.
     pub fn new(room: Room) -> Result<OwnedTable, Refusal> {
+        OwnedTable::with_memo(room, room.nodes)
+    }
+
+    /// The same with a memo of so many sets, 64 bytes each: from one to as many as there is room for nodes. A call writes every word of
+    /// its memo, so that a short one is quicker for small conditions; a long one is quicker for large ones.
+    ///
+    /// # Errors
+    ///
+    /// `BadLength`, where a table may not have this room, or a memo so many sets. Then nothing is allocated.
+    pub fn with_memo(room: Room, sets: usize) -> Result<OwnedTable, Refusal> {
         let nodes = Room::LEAST.nodes..=Room::MOST.nodes;
         let edges = Room::LEAST.edges..=Room::MOST.edges;
-        if !nodes.contains(&room.nodes) || !edges.contains(&room.edges) {
+        let may_be = nodes.contains(&room.nodes) && edges.contains(&room.edges);
+        if !may_be || !(1..=room.nodes).contains(&sets) {
             return Err(Refusal::BadLength);
         }
         Ok(OwnedTable {
@@ -48,12 +59,12 @@ impl OwnedTable {
             children: vec![0; room.edge_words()],
             cuts: vec![0; room.edge_words()],
             index: vec![0; room.index_words()],
-            memo: vec![0; room.memo_words()],
+            memo: vec![0; Room::memo_words_of(sets)],
         })
     }
 
-    /// The table, and a memo of the right length for the calls that take one.
-    pub fn lend(&mut self) -> (Table<'_>, &mut [u32]) {
+    /// The table, and its memo for the calls that take one.
+    pub fn lend(&mut self) -> (Table<'_>, &mut [u64]) {
         let table = Table::lend(
             &mut self.nodes,
             &mut self.children,

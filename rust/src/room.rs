@@ -42,9 +42,25 @@ impl Room {
         2 * self.nodes
     }
 
-    /// The length of the slice `memo`: three words a node.
+    /// The words of one set of a memo.
+    pub const MEMO_SET: usize = 8;
+
+    /// The most words that the slice `memo` may have: a set a node. Every whole number of sets from one on is allowed too
+    /// ([`Room::memo_words_of`]). No answer goes by it: a longer memo is quicker for large conditions, a shorter one takes less memory.
     pub const fn memo_words(self) -> usize {
-        3 * self.nodes
+        Room::memo_words_of(self.nodes)
+    }
+
+    /// The length of a memo of so many sets.
+    ///
+    /// ```
+    /// use spanwhistle::Room;
+    ///
+    /// const MEMO: [u64; Room::memo_words_of(4)] = [0; Room::memo_words_of(4)];
+    /// assert_eq!(MEMO.len(), 32);
+    /// ```
+    pub const fn memo_words_of(sets: usize) -> usize {
+        Room::MEMO_SET * sets
     }
 }
 

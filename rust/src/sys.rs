@@ -51,18 +51,18 @@ declare! {
         variable: u32, lower_kind: u32, lower_key: i32, upper_kind: u32, upper_key: i32, id: *mut u32
     );
     mut spanwhistle_from_bool(variable: u32, id: *mut u32);
-    mut spanwhistle_and(memo: *mut u32, memo_len: usize, x: u32, y: u32, id: *mut u32);
-    mut spanwhistle_or(memo: *mut u32, memo_len: usize, x: u32, y: u32, id: *mut u32);
+    mut spanwhistle_and(memo: *mut u64, memo_len: usize, x: u32, y: u32, id: *mut u32);
+    mut spanwhistle_or(memo: *mut u64, memo_len: usize, x: u32, y: u32, id: *mut u32);
     const spanwhistle_is_disjoint(x: u32, y: u32, yes: *mut u32);
     mut spanwhistle_restrict(
-        memo: *mut u32, memo_len: usize, x: u32, variable: u32, value: u32, id: *mut u32
+        memo: *mut u64, memo_len: usize, x: u32, variable: u32, value: u32, id: *mut u32
     );
     mut spanwhistle_narrow(
-        memo: *mut u32, memo_len: usize, x: u32, variable: u32,
+        memo: *mut u64, memo_len: usize, x: u32, variable: u32,
         lower_kind: u32, lower_key: i32, upper_kind: u32, upper_key: i32, id: *mut u32
     );
     mut spanwhistle_widen(
-        memo: *mut u32, memo_len: usize, x: u32, variable: u32,
+        memo: *mut u64, memo_len: usize, x: u32, variable: u32,
         lower_kind: u32, lower_key: i32, upper_kind: u32, upper_key: i32, id: *mut u32
     );
 }
@@ -197,7 +197,7 @@ pub fn from_bool(table: &mut Table, variable: u32) -> Result<NodeId, Refusal> {
     id_of!(spanwhistle_from_bool, table, variable)
 }
 
-pub fn and(table: &mut Table, memo: &mut [u32], x: NodeId, y: NodeId) -> Result<NodeId, Refusal> {
+pub fn and(table: &mut Table, memo: &mut [u64], x: NodeId, y: NodeId) -> Result<NodeId, Refusal> {
     id_of!(
         spanwhistle_and,
         table,
@@ -208,7 +208,7 @@ pub fn and(table: &mut Table, memo: &mut [u32], x: NodeId, y: NodeId) -> Result<
     )
 }
 
-pub fn or(table: &mut Table, memo: &mut [u32], x: NodeId, y: NodeId) -> Result<NodeId, Refusal> {
+pub fn or(table: &mut Table, memo: &mut [u64], x: NodeId, y: NodeId) -> Result<NodeId, Refusal> {
     id_of!(
         spanwhistle_or,
         table,
@@ -221,7 +221,7 @@ pub fn or(table: &mut Table, memo: &mut [u32], x: NodeId, y: NodeId) -> Result<N
 
 pub fn restrict(
     table: &mut Table,
-    memo: &mut [u32],
+    memo: &mut [u64],
     x: NodeId,
     variable: u32,
     value: bool,
@@ -239,7 +239,7 @@ pub fn restrict(
 
 pub fn narrow(
     table: &mut Table,
-    memo: &mut [u32],
+    memo: &mut [u64],
     x: NodeId,
     variable: u32,
     ends: Ends,
@@ -260,7 +260,7 @@ pub fn narrow(
 
 pub fn widen(
     table: &mut Table,
-    memo: &mut [u32],
+    memo: &mut [u64],
     x: NodeId,
     variable: u32,
     ends: Ends,

@@ -15,10 +15,11 @@ use core::ops::RangeBounds;
 ///
 /// Every call tests the lengths first, then the whole table (but for `fresh`, which overwrites it), then its other arguments, in the order
 /// of the refusals' numbers. A table that is sound, but not the one that was stored, cannot be told from it: where memory may change,
-/// keep a checksum or a signature beside the table. A refused call leaves the four slices as they were. Calls that take a `memo` use it as scratch: three words a node of the room, whatever they hold, all zero
-/// after a call that was done or found no room.
+/// keep a checksum or a signature beside the table. A refused call leaves the four slices as they were. Calls that take a `memo` use it as
+/// scratch, whatever it holds: words of 64 bits, whole sets of eight, from one set to one a node of the room
+/// ([`Room::memo_words`](crate::Room::memo_words)). It is all zero after a call that was done or found no room, and no answer goes by its length.
 ///
-/// Calls that walk down a table need a deep stack, `restrict` up to 91,544 bytes in our deepest test: include/spanwhistle.h has the
+/// Calls that walk down a table need a deep stack, `restrict` up to 91,544 bytes in our deepest test (TODO-MEASURE): include/spanwhistle.h has the
 /// figures, by the number of variables, and what they are worth.
 ///
 /// ```
@@ -176,14 +177,14 @@ impl<'a> Table<'a> {
 
     /// The condition that both hold. It is FALSE exactly when the two are apart, x exactly when x never holds without y.
     ///
-    /// The memo has one entry a node of the room, and entries overwrite one another: on tables built for it this call can take seconds, and
-    /// the others that take a memo may.
+    /// The memo has up to eight entries a set, and entries overwrite one another: on tables built for it this call can take long
+    /// (TODO-MEASURE), and the others that take a memo may. A longer memo is quicker for large conditions.
     ///
     /// # Errors
     ///
     /// `BadLength` (also of the memo), `NotSound`, `UnknownId`, `NoRoom`. `NoRoom` is never told where the answer is FALSE, x or y, since
     /// the table holds these.
-    pub fn and(&mut self, memo: &mut [u32], x: NodeId, y: NodeId) -> Result<NodeId, Refusal> {
+    pub fn and(&mut self, memo: &mut [u64], x: NodeId, y: NodeId) -> Result<NodeId, Refusal> {
         sys::and(self, memo, x, y)
     }
 
@@ -192,7 +193,7 @@ impl<'a> Table<'a> {
     /// # Errors
     ///
     /// `BadLength` (also of the memo), `NotSound`, `UnknownId`, `NoRoom`.
-    pub fn or(&mut self, memo: &mut [u32], x: NodeId, y: NodeId) -> Result<NodeId, Refusal> {
+    pub fn or(&mut self, memo: &mut [u64], x: NodeId, y: NodeId) -> Result<NodeId, Refusal> {
         sys::or(self, memo, x, y)
     }
 
@@ -212,7 +213,7 @@ impl<'a> Table<'a> {
     /// `BadLength` (also of the memo), `NotSound`, `UnknownId`, `BadVariable` (64 or more), `NoRoom`.
     pub fn restrict(
         &mut self,
-        memo: &mut [u32],
+        memo: &mut [u64],
         id: NodeId,
         variable: u32,
         value: bool,
@@ -228,7 +229,7 @@ impl<'a> Table<'a> {
     /// `BadLength` (also of the memo), `NotSound`, `UnknownId`, `BadVariable` (32 or more), `NoRoom`.
     pub fn narrow(
         &mut self,
-        memo: &mut [u32],
+        memo: &mut [u64],
         id: NodeId,
         variable: u32,
         range: impl RangeBounds<i32>,
@@ -243,7 +244,7 @@ impl<'a> Table<'a> {
     /// `BadLength` (also of the memo), `NotSound`, `UnknownId`, `BadVariable` (32 or more), `NoRoom`.
     pub fn widen(
         &mut self,
-        memo: &mut [u32],
+        memo: &mut [u64],
         id: NodeId,
         variable: u32,
         range: impl RangeBounds<i32>,

@@ -190,5 +190,34 @@ fn an_owned_table() -> Result<(), Refusal> {
     for room in [Room::LEAST, Room::MOST] {
         assert!(OwnedTable::new(room)?.view().check().is_ok());
     }
+    for sets in [0, ROOM.nodes + 1, usize::MAX] {
+        assert_eq!(OwnedTable::with_memo(ROOM, sets), Err(Refusal::BadLength));
+    }
+    Ok(())
+}
+
+/// No answer goes by the memo's length: the same calls with any number of sets answer the same ids.
+#[cfg(feature = "alloc")]
+#[test]
+fn a_memo_of_any_length() -> Result<(), Refusal> {
+    use spanwhistle::OwnedTable;
+    let built = |sets| {
+        let mut owned = OwnedTable::with_memo(ROOM, sets)?;
+        let (mut table, memo) = owned.lend();
+        assert_eq!(memo.len(), Room::memo_words_of(sets));
+        let warm = table.from_range(X, 3..7)?;
+        let a = table.from_bool(A)?;
+        let both = table.and(memo, warm, a)?;
+        let either = table.or(memo, both, !warm)?;
+        let without = table.restrict(memo, either, A, false)?;
+        let narrowed = table.narrow(memo, either, X, 4..)?;
+        let widened = table.widen(memo, either, X, ..=9)?;
+        assert!(memo.iter().all(|word| *word == 0));
+        Ok(([both, either, without, narrowed, widened], table.check()?))
+    };
+    let longest = built(ROOM.nodes)?;
+    for sets in 1..ROOM.nodes {
+        assert_eq!(built(sets)?, longest);
+    }
     Ok(())
 }

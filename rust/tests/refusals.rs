@@ -1,7 +1,7 @@
 //! Every refusal, by every call that gives it; that a refused call leaves the table as it was; and that a table may be given back and lent
 //! again.
 mod lent;
-use lent::{id, memo_of, Memory, A, B, X};
+use lent::{id, memo_of, Memory, A, B, SOILED, X};
 use spanwhistle::Comparison::{Equal, GreaterEqual, GreaterThan, LessEqual, LessThan, NotEqual};
 use spanwhistle::{NodeId, Reading, Refusal, Room, Table, Used, HIGHEST_PLACE, RANGE_VARIABLES};
 
@@ -21,7 +21,7 @@ fn full() -> Memory {
 }
 
 /// A call of which only the refusal is asked.
-type Call = fn(&mut Table, &mut [u32]) -> Result<(), Refusal>;
+type Call = fn(&mut Table, &mut [u64]) -> Result<(), Refusal>;
 
 /// Conditions that `full` does not hold.
 const CONDITIONS: [Call; 8] = [
@@ -59,9 +59,9 @@ fn testing_calls() -> impl Iterator<Item = &'static Call> {
 }
 
 /// The call is refused so, and the four slices are as they were; the memo after it.
-fn refused<C>(memory: &mut Memory, mut memo: Vec<u32>, call: C, why: Refusal) -> Vec<u32>
+fn refused<C>(memory: &mut Memory, mut memo: Vec<u64>, call: C, why: Refusal) -> Vec<u64>
 where
-    C: FnOnce(&mut Table, &mut [u32]) -> Result<(), Refusal>,
+    C: FnOnce(&mut Table, &mut [u64]) -> Result<(), Refusal>,
 {
     let before = memory.clone();
     assert_eq!(call(&mut memory.lend(), &mut memo), Err(why));
@@ -72,7 +72,7 @@ where
 /// As `refused`, with a memo of the right length, which stays as it was too.
 fn refused_early<C>(memory: &mut Memory, call: C, why: Refusal)
 where
-    C: FnOnce(&mut Table, &mut [u32]) -> Result<(), Refusal>,
+    C: FnOnce(&mut Table, &mut [u64]) -> Result<(), Refusal>,
 {
     let memo = refused(memory, memo_of(ROOM), call, why);
     assert_eq!(memo, memo_of(ROOM), "the memo after a refusal");
@@ -134,10 +134,12 @@ fn refusal_1_empty_slices() {
 
 #[test]
 fn refusal_1_memo() {
-    for words in [0, ROOM.memo_words() - 1, ROOM.memo_words() + 1] {
+    let set = Room::MEMO_SET;
+    let most = ROOM.memo_words();
+    for words in [0, set - 1, set + 1, most - 1, most + 1, most + set] {
         for call in &WITH_MEMO {
-            let memo = refused(&mut full(), vec![4; words], call, Refusal::BadLength);
-            assert_eq!(memo, vec![4; words]);
+            let memo = refused(&mut full(), vec![SOILED; words], call, Refusal::BadLength);
+            assert_eq!(memo, vec![SOILED; words]);
         }
     }
 }
@@ -164,7 +166,7 @@ fn refusal_2() {
 
 #[test]
 fn refusal_3() {
-    type CallOf = fn(&mut Table, &mut [u32], NodeId) -> Result<(), Refusal>;
+    type CallOf = fn(&mut Table, &mut [u64], NodeId) -> Result<(), Refusal>;
     let calls: [CallOf; 10] = [
         |table, memo, id| table.and(memo, id, NodeId::FALSE).map(drop),
         |table, memo, id| table.and(memo, NodeId::FALSE, id).map(drop),
@@ -179,7 +181,7 @@ fn refusal_3() {
     ];
     for number in [6, 7, u32::MAX - 1, u32::MAX] {
         for call in calls {
-            let call = |table: &mut Table, memo: &mut [u32]| call(table, memo, id(number));
+            let call = |table: &mut Table, memo: &mut [u64]| call(table, memo, id(number));
             refused_early(&mut full(), call, Refusal::UnknownId);
         }
     }
@@ -187,7 +189,7 @@ fn refusal_3() {
 
 #[test]
 fn refusal_4() {
-    type CallOf = fn(&mut Table, &mut [u32], u32) -> Result<(), Refusal>;
+    type CallOf = fn(&mut Table, &mut [u64], u32) -> Result<(), Refusal>;
     let ask_a_range: [CallOf; 4] = [
         |table, _, variable| table.from_comparison(variable, Equal, 9).map(drop),
         |table, _, variable| table.from_range(variable, ..).map(drop),
@@ -202,7 +204,7 @@ fn refusal_4() {
     let wrong_variable = (ask_a_variable, [64, 65, 96, u32::MAX]);
     for (call, variables) in wrong_range.iter().chain([&wrong_boolean, &wrong_variable]) {
         for variable in *variables {
-            let call = |table: &mut Table, memo: &mut [u32]| call(table, memo, variable);
+            let call = |table: &mut Table, memo: &mut [u64]| call(table, memo, variable);
             refused_early(&mut full(), call, Refusal::BadVariable);
         }
     }
@@ -211,7 +213,7 @@ fn refusal_4() {
 #[test]
 fn refusal_5_of_any_variable() {
     for variable in 0..RANGE_VARIABLES {
-        let call = |table: &mut Table, _: &mut [u32]| {
+        let call = |table: &mut Table, _: &mut [u64]| {
             let mut reading = Reading::default();
             reading.places[variable] = HIGHEST_PLACE + 1;
             table.evaluate(&reading, NodeId::TRUE).map(drop)

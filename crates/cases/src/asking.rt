@@ -31,8 +31,9 @@ use table::calls::evaluate;
 use table::told::DONE;
 use table::told::Told;
 
-// What every word of the memo is before each call: it is scratch, and never believed.
-const SOILED: u32 = 77;
+// What every word of the memo is before each call: it is scratch, and never believed. Were it, its first word would say that one set of
+// eight words is in use, and the words behind that set would stay.
+const SOILED: u64 = 262221;
 
 // The first place that is none; no list has a place that lies further.
 const BEYOND: u64 = 4294967296;
@@ -93,7 +94,7 @@ fn change(
     children: &mut [u32],
     cuts: &mut [i64],
     index: &mut [u32],
-    memo: &mut [u32],
+    memo: &mut [u64],
     q: Question,
 ) -> Answer {
     match q {
@@ -115,7 +116,7 @@ fn ask(
     children: &mut [u32],
     cuts: &mut [i64],
     index: &mut [u32],
-    memo: &mut [u32],
+    memo: &mut [u64],
     q: Question,
 ) -> Answer {
     match q {
@@ -130,7 +131,7 @@ fn is_zeroed(number: u32) -> bool {
     number == DONE || number == NO_ROOM
 }
 
-fn memo_right(memo: &[u32], number: u32) -> bool {
+fn memo_right(memo: &[u64], number: u32) -> bool {
     if is_zeroed(number) {
         return all(memo, 0);
     }
@@ -161,7 +162,7 @@ fn show_answer(kind: Kind, number: u32, value: u32) {
     }
 }
 
-fn is_right(memo: &[u32], case: Case, said: Answer) -> bool {
+fn is_right(memo: &[u64], case: Case, said: Answer) -> bool {
     let id = said.id;
     let q = case.asks;
     let kind = kind_of(q);
@@ -174,12 +175,12 @@ fn is_right(memo: &[u32], case: Case, said: Answer) -> bool {
     }
 }
 
-// One line for a case.
-fn judge(memo: &[u32], c: Count, case: Case, said: Answer) -> Count {
+// One line for a case; for a quiet one only where it is wrong.
+fn judge(memo: &[u64], c: Count, case: Case, quiet: bool, said: Answer) -> Count {
     let id = said.id;
     let q = case.asks;
     let right = is_right(memo, case, said);
-    if right && case.of == QUIET {
+    if right && (quiet || case.of == QUIET) {
         return show::counted(c, true);
     }
     show::name(case.of);
@@ -189,15 +190,16 @@ fn judge(memo: &[u32], c: Count, case: Case, said: Answer) -> Count {
     show::judged(c, right)
 }
 
-// All cases of a list.
+// All cases of a list. Where it is quiet, a right answer has no line.
 pub fn run(
     nodes: &mut [u32],
     children: &mut [u32],
     cuts: &mut [i64],
     index: &mut [u32],
-    memo: &mut [u32],
+    memo: &mut [u64],
     before: Count,
     list: List,
+    quiet: bool,
 ) -> Count {
     let mut c = before;
     let n = length(list);
@@ -206,7 +208,7 @@ pub fn run(
         let q = case.asks;
         fill(memo, SOILED);
         let said = ask(nodes, children, cuts, index, memo, q);
-        c = judge(memo, c, case, said);
+        c = judge(memo, c, case, quiet, said);
     }
     c
 }

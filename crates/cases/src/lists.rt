@@ -36,7 +36,7 @@ pub enum List {
     // C16: the last variable and the last place, and what lies beyond.
     Last,
     TooFar,
-    // A condition, and refusals that go before a shortcut: in a table that is not sound, and with a memo of another length.
+    // A condition, and refusals that go before a shortcut: in a table that is not sound, and with a memo of a length that is refused.
     Some,
     Damaged,
     OtherMemo,
@@ -57,7 +57,7 @@ pub fn length(list: List) -> usize {
         List::TooFar => 12,
         List::Some => 1,
         List::Damaged => 5,
-        List::OtherMemo => 5,
+        List::OtherMemo => 7,
     }
 }
 
@@ -367,7 +367,9 @@ fn other_memo(k: usize) -> Case {
         0 => done(0, Question::Boolean(32), 2),
         1 => refused(0, Question::And(0, 2), WRONG_ROOM),
         2 => refused(0, Question::And(0, 8), WRONG_ROOM),
-        3 => refused(0, Question::Restrict(2, 0, true), WRONG_ROOM),
-        _ => refused(0, narrow(0, Bound::Open, Bound::Open), WRONG_ROOM),
+        3 => refused(0, Question::Or(2, 1), WRONG_ROOM),
+        4 => refused(0, Question::Restrict(2, 0, true), WRONG_ROOM),
+        5 => refused(0, narrow(0, Bound::Open, Bound::Open), WRONG_ROOM),
+        _ => refused(0, widen(0, Bound::Open, Bound::Open), WRONG_ROOM),
     }
 }

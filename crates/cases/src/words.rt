@@ -1,14 +1,14 @@
 // Whether words are what they were.
 
-// Writes w to every word.
-pub fn fill(words: &mut [u32], w: u32) {
+// Writes w to every word of a memo.
+pub fn fill(words: &mut [u64], w: u64) {
     for i in 0..words.len() {
         words[i] = w;
     }
 }
 
-// Whether every word is w.
-pub fn all(words: &[u32], w: u32) -> bool {
+// Whether every word of a memo is w.
+pub fn all(words: &[u64], w: u64) -> bool {
     for i in 0..words.len() {
         if words[i] != w {
             return false;

@@ -140,7 +140,7 @@ fn read_rule(
     children: &mut [u32],
     cuts: &mut [i64],
     index: &mut [u32],
-    memo: &mut [u32],
+    memo: &mut [u64],
     rules: &mut [usize],
     at: usize,
     s: Sheet,
@@ -176,7 +176,7 @@ fn read_line(
     children: &mut [u32],
     cuts: &mut [i64],
     index: &mut [u32],
-    memo: &mut [u32],
+    memo: &mut [u64],
     rules: &mut [usize],
     at: usize,
     s: Sheet,
@@ -206,7 +206,7 @@ pub fn read_lines(
     children: &mut [u32],
     cuts: &mut [i64],
     index: &mut [u32],
-    memo: &mut [u32],
+    memo: &mut [u64],
     rules: &mut [usize],
 ) -> Sheet {
     let mut s = empty_sheet();

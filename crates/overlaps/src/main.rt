@@ -24,8 +24,11 @@ use std::num::wrapping_add_u64;
 use std::num::wrapping_sub_usize;
 use table::calls::check;
 use table::limits::FIRST_BOOLEAN;
+use table::limits::INDEX_WORDS;
+use table::limits::MEMO_WORDS;
 use table::limits::MOST_EDGE_ROOM;
 use table::limits::MOST_NODES;
+use table::limits::RECORD_WORDS;
 use table::told::Checked;
 
 // The most that is read.
@@ -59,11 +62,11 @@ fn show_unread(faults: u64, limited: bool) {
 
 // Whether the condition at a position has room in a table of its own, as far as it can be read.
 fn fits_alone(text: &[u8], variables: Names, at: usize) -> bool {
-    let mut nodes = [0u32; MOST_NODES * 4];
+    let mut nodes = [0u32; MOST_NODES * RECORD_WORDS];
     let mut children = [0u32; MOST_EDGE_ROOM];
     let mut cuts = [0i64; MOST_EDGE_ROOM];
-    let mut index = [0u32; MOST_NODES * 2];
-    let mut memo = [0u32; MOST_NODES * 3];
+    let mut index = [0u32; MOST_NODES * INDEX_WORDS];
+    let mut memo = [0u64; MOST_NODES * MEMO_WORDS];
     let c = condition(
         text,
         &mut nodes,
@@ -96,13 +99,13 @@ fn show_no_room(text: &[u8], s: Sheet, used: Checked) {
 }
 
 // Reads the rules into an empty table and reports on them, if there are some and every line could be read. The table has all the room that
-// the kernel allows: docs/LAYOUT.md. All words 0 is the empty table.
+// the kernel allows, and so has the memo: docs/LAYOUT.md. All words 0 is the empty table.
 fn compare(text: &[u8], all: bool) -> Verdict {
-    let mut nodes = [0u32; MOST_NODES * 4];
+    let mut nodes = [0u32; MOST_NODES * RECORD_WORDS];
     let mut children = [0u32; MOST_EDGE_ROOM];
     let mut cuts = [0i64; MOST_EDGE_ROOM];
-    let mut index = [0u32; MOST_NODES * 2];
-    let mut memo = [0u32; MOST_NODES * 3];
+    let mut index = [0u32; MOST_NODES * INDEX_WORDS];
+    let mut memo = [0u64; MOST_NODES * MEMO_WORDS];
     let mut rules = [0usize; RULE_WORDS];
     let s = lines::read_lines(
         text,

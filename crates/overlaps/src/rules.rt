@@ -241,7 +241,7 @@ fn join(
     children: &mut [u32],
     cuts: &mut [i64],
     index: &mut [u32],
-    memo: &mut [u32],
+    memo: &mut [u64],
     c: Partial,
 ) -> Partial {
     let j = behind(text, c);
@@ -262,7 +262,7 @@ fn and_term(
     children: &mut [u32],
     cuts: &mut [i64],
     index: &mut [u32],
-    memo: &mut [u32],
+    memo: &mut [u64],
     c: Partial,
     t: Partial,
 ) -> Partial {
@@ -284,7 +284,7 @@ fn one_more(
     children: &mut [u32],
     cuts: &mut [i64],
     index: &mut [u32],
-    memo: &mut [u32],
+    memo: &mut [u64],
     names: Names,
     c: Partial,
 ) -> Partial {
@@ -299,7 +299,7 @@ pub fn condition(
     children: &mut [u32],
     cuts: &mut [i64],
     index: &mut [u32],
-    memo: &mut [u32],
+    memo: &mut [u64],
     names: Names,
     at: usize,
 ) -> Partial {

@@ -78,7 +78,7 @@ pub fn ask(
     children: &mut [u32],
     cuts: &mut [i64],
     index: &mut [u32],
-    memo: &mut [u32],
+    memo: &mut [u64],
     places: &[i64],
     q: Question,
 ) -> Reply {

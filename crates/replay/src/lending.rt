@@ -1,6 +1,7 @@
 // What is lent, and the lines that write to it.
 ghost use Prim.Native.Nat.{_≤_};
 use super::line::Line;
+use memo::wipe;
 use table::fresh::zero_cuts;
 use table::fresh::zero_words;
 use table::words::wide;
@@ -37,14 +38,14 @@ pub fn lend(
     children: &mut [u32],
     cuts: &mut [i64],
     index: &mut [u32],
-    memo: &mut [u32],
+    memo: &mut [u64],
     line: Line,
 ) -> Lent {
     zero_words(nodes);
     zero_words(children);
     zero_cuts(cuts);
     zero_words(index);
-    zero_words(memo);
+    wipe(memo);
     let n = line.numbers;
     Lent {
         nodes: wide(n[0].natural()),
@@ -57,6 +58,13 @@ pub fn lend(
 
 // Writes one word, if it is there.
 fn set(words: &mut [u32], k: usize, word: u32) {
+    if k < words.len() {
+        words[k] = word;
+    }
+}
+
+// The same for the memo, whose words are wider.
+fn set_wide(words: &mut [u64], k: usize, word: u64) {
     if k < words.len() {
         words[k] = word;
     }
@@ -75,7 +83,7 @@ pub fn set_word(
     children: &mut [u32],
     cuts: &mut [i64],
     index: &mut [u32],
-    memo: &mut [u32],
+    memo: &mut [u64],
     line: Line,
 ) {
     let n = line.numbers;
@@ -87,7 +95,7 @@ pub fn set_word(
         1 => set(children, k, word),
         2 => set_signed(cuts, k, n[2].signed()),
         3 => set(index, k, word),
-        4 => set(memo, k, word),
+        4 => set_wide(memo, k, n[2].size),
         _ => {}
     }
 }

@@ -15,17 +15,20 @@ use output::flush;
 use reading::State;
 use reading::read_line;
 use table::limits::FIRST_BOOLEAN;
+use table::limits::INDEX_WORDS;
+use table::limits::MEMO_WORDS;
 use table::limits::MOST_EDGE_ROOM;
 use table::limits::MOST_NODES;
+use table::limits::RECORD_WORDS;
 
 // What is held: room for one node and one edge more than a table may have, so that a room that is too large can be lent too.
-const NODES: usize = 4 * (MOST_NODES + 1);
+const NODES: usize = RECORD_WORDS * (MOST_NODES + 1);
 
 const EDGES: usize = MOST_EDGE_ROOM + 1;
 
-const INDEX: usize = 2 * (MOST_NODES + 1);
+const INDEX: usize = INDEX_WORDS * (MOST_NODES + 1);
 
-const MEMO: usize = 3 * (MOST_NODES + 1);
+const MEMO: usize = MEMO_WORDS * (MOST_NODES + 1);
 
 // A proved loop has to end, and nothing says that the input does. So the lines are counted down, from a number that no run uses up.
 fn main() {
@@ -33,7 +36,7 @@ fn main() {
     let mut children = [0u32; EDGES];
     let mut cuts = [0i64; EDGES];
     let mut index = [0u32; INDEX];
-    let mut memo = [0u32; MEMO];
+    let mut memo = [0u64; MEMO];
     let mut places = [0i64; FIRST_BOOLEAN];
     let mut input = io::large_buffer();
     let mut out = io::large_buffer();

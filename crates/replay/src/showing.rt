@@ -50,13 +50,35 @@ fn show_cuts(out: &mut [u8], waiting: usize, cuts: &[i64]) -> usize {
     put(out, w, b'|')
 }
 
+// The same of the memo.
+fn used_memo(memo: &[u64]) -> usize
+    ensures { λ r. ⌜ r ≤ length (now (memo .entry)) ⌝ }
+{
+    let mut n = memo.len();
+    while n > 0 && memo[n - 1] == 0 {
+        n -= 1;
+    }
+    n
+}
+
+// The same of the memo.
+fn show_memo(out: &mut [u8], waiting: usize, memo: &[u64]) -> usize {
+    let mut w = waiting;
+    let n = used_memo(memo);
+    for i in 0..n {
+        w = put_number(out, w, memo[i]);
+        w = put(out, w, b' ');
+    }
+    put(out, w, b'|')
+}
+
 // The five slices, of each the words up to its last one that is not 0.
 pub fn show(
     nodes: &[u32],
     children: &[u32],
     cuts: &[i64],
     index: &[u32],
-    memo: &[u32],
+    memo: &[u64],
     out: &mut [u8],
     waiting: usize,
 ) -> usize {
@@ -64,6 +86,6 @@ pub fn show(
     let w = show_words(out, w, children);
     let w = show_cuts(out, w, cuts);
     let w = show_words(out, w, index);
-    let w = show_words(out, w, memo);
+    let w = show_memo(out, w, memo);
     put(out, w, b'\n')
 }

@@ -36,9 +36,12 @@ impl Memory {
     }
 }
 
-/// A memo with words in it that must never be believed.
-pub fn memo_of(room: Room) -> Vec<u32> {
-    vec![4; room.memo_words()]
+/// What stands in a memo before a call, and must never be believed: in its first word, that one set is in use.
+pub const SOILED: u64 = 1 << 18 | 4;
+
+/// The longest memo for a room.
+pub fn memo_of(room: Room) -> Vec<u64> {
+    vec![SOILED; room.memo_words()]
 }
 
 pub fn id(number: u32) -> NodeId {

@@ -7,10 +7,10 @@ use Rattle.cases.proofs.asking.run.Statement.{statement}
 use Rattle.cases.proofs.asking.run.Tie as tie
 
 abbrev Inv-loop : tie.InvT-loop
-Inv-loop nodes₀ children₀ cuts₀ index₀ memo₀ list c₀ n k₀ nodes children cuts index memo c k = (k ≤ n) × (length nodes ≡ length nodes₀) × (length children ≡ length children₀) × (length cuts ≡ length cuts₀) × (length index ≡ length index₀) × (length memo ≡ length memo₀)
+Inv-loop nodes₀ children₀ cuts₀ index₀ memo₀ list quiet c₀ n k₀ nodes children cuts index memo c k = (k ≤ n) × (length nodes ≡ length nodes₀) × (length children ≡ length children₀) × (length cuts ≡ length cuts₀) × (length index ≡ length index₀) × (length memo ≡ length memo₀)
 
 abbrev μ-loop : tie.MeasureT-loop
-μ-loop nodes₀ children₀ cuts₀ index₀ memo₀ list c₀ n k₀ nodes children cuts index memo c k = n - k
+μ-loop nodes₀ children₀ cuts₀ index₀ memo₀ list quiet c₀ n k₀ nodes children cuts index memo c k = n - k
 
 pub run-spec : {M : Type 1} → statement M
 run-spec =
