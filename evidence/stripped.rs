@@ -28,7 +28,7 @@ fn lend(places: [i64; 32], n: &[i64; 6]) -> Held {
         nodes: vec![0; at_most(16388, n[0])],
         children: vec![0; at_most(16385, n[1])],
         cuts: vec![0; at_most(16385, n[2])],
-        index: vec![0; at_most(8194, n[3])],
+        index: vec![0; at_most(16388, n[3])],
         memo: vec![0; at_most(32776, n[4])],
         places,
     }

@@ -12,7 +12,7 @@
 #define MONTH 1u
 #define NOZZLE 32u
 
-// Room for 16 nodes and 64 edges: 1,152 bytes of table. The memo may have 1 to 16 sets, and has 4: 256 bytes. Static memory is zero, so the
+// Room for 16 nodes and 64 edges: 1,280 bytes of table. The memo may have 1 to 16 sets, and has 4: 256 bytes. Static memory is zero, so the
 // table is empty at the start.
 #define NODES 16u
 #define EDGES 64u

@@ -26,7 +26,7 @@ int main(void) {
     };
     uint32_t nodes[SPANWHISTLE_NODE_WORDS(1)] = {0}, children[2] = {0}, index_words[SPANWHISTLE_INDEX_WORDS(1)] = {0}, id;
     int64_t cuts[2] = {0};
-    spanwhistle_table table = {nodes, 4, children, 2, cuts, 2, index_words, 2};
+    spanwhistle_table table = {nodes, 4, children, 2, cuts, 2, index_words, 4};
     char version[32];
     uint32_t number;
     for (number = 0; number < sizeof names / sizeof names[0]; number++)

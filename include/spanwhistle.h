@@ -128,7 +128,7 @@ static inline const char *spanwhistle_name(uint32_t number) {
 #define SPANWHISTLE_LEAST_NODES 1u
 #define SPANWHISTLE_LEAST_EDGES 2u
 #define SPANWHISTLE_NODE_WORDS(R) (4u * (R))
-#define SPANWHISTLE_INDEX_WORDS(R) (2u * (R))
+#define SPANWHISTLE_INDEX_WORDS(R) (4u * (R))
 #define SPANWHISTLE_MEMO_WORDS(S) (8u * (S))
 
 /* Variables: ranges are 0 to 31, booleans 32 to 63. */
@@ -201,8 +201,7 @@ uint32_t spanwhistle_fresh(SPANWHISTLE_LENDS);
 /*
  * Tests the table, as the calls below do at their start: ask it of a table read from flash before the first delivery.
  * Returns 0 exactly when the table is sound, or 1 or 2. Writes the number of used nodes and edges beside 0, and 0 and 0 beside a refusal.
- * It is quick, unless someone built the table so that its nodes share one place of the index: then it is slow (0.1 s, docs/TESTING.md), and
- * still right.
+ * Its work goes with the lengths: one step a node and one a word, whatever was lent (TODO-MEASURE).
  */
 SPANWHISTLE_MUST_USE
 uint32_t spanwhistle_check(SPANWHISTLE_SHOWS, size_t *used_nodes, size_t *used_edges);

@@ -2,7 +2,7 @@
 """Says what the program `damage` must write, from document 01: crates/damage/stdout is what this prints.
 
 Nothing here looks at the kernel's code. A table is sound when for some number of used records every rule of "A sound table" holds, so all
-numbers are tried. The index is rebuilt from the records in order and compared word for word. A reading goes down the diagram by definition.
+numbers are tried. The index is rebuilt from the records and compared word for word. A reading goes down the diagram by definition.
 The lengths, the words of a record and the hash are those of the crate table's specs (Layout, Indexed)."""
 
 LOW, HIGH = -2**32 - 1, 2**32 - 1  # the end places; a cut is any place but the lowest
@@ -10,32 +10,53 @@ LOW, HIGH = -2**32 - 1, 2**32 - 1  # the end places; a cut is any place but the 
 NODES = [40, 2, 0, 0, 3, 3, 2, 0, 1, 2, 5, 0, 0, 0, 0, 0]  # variable, edges, first edge, spare
 CHILDREN = [0, 1, 2, 0, 3, 0, 5, 0, 0, 0]
 CUTS = [0, 0, -5, 10, 0, 5, 0, 0, 0, 0]
-INDEX = [3, 0, 2, 0, 0, 0, 1, 0]
+INDEX = [1, 0, 2, 0] + [3, 0, 0, 0] + [0, 0, 1, 0] + [411767173, 2978375512, 505234245, 0]  # first nodes, nexts, nodes before, hashes
 WORDS = [0, 1, 2, 3, 4, 5, 6, 7, 8, 9, 40, 63, 64, 65, 2**31, 2**32 - 1]
 PLACES = [0, 1, -1, -5, -6, -4, 9, 10, 11, 2**32 - 1, 2**32, -2**32, -2**32 - 1, -2**63, 2**63 - 1, 12]
 SOUND = [NODES, CHILDREN, CUTS, INDEX]
-LENGTHS = [(16, 10, 10, 8), (15, 10, 10, 8), (17, 10, 10, 8), (16, 9, 10, 8), (16, 11, 10, 8), (16, 10, 9, 8), (16, 10, 11, 8),
-           (16, 10, 10, 7), (16, 10, 10, 9), (0, 10, 10, 8), (0, 10, 10, 0), (16, 0, 10, 8), (16, 10, 0, 8), (16, 0, 0, 8), (16, 10, 10, 0),
-           (0, 0, 0, 0), (16, 1, 1, 8), (16, 7, 7, 8), (16, 6, 6, 8), (16, 11, 11, 8), (12, 10, 10, 6), (20, 10, 10, 10), (18, 10, 10, 8)]
+LENGTHS = [(16, 10, 10, 16), (15, 10, 10, 16), (17, 10, 10, 16), (16, 9, 10, 16), (16, 11, 10, 16), (16, 10, 9, 16), (16, 10, 11, 16),
+           (16, 10, 10, 15), (16, 10, 10, 17), (0, 10, 10, 16), (0, 10, 10, 0), (16, 0, 10, 16), (16, 10, 0, 16), (16, 0, 0, 16), (16, 10, 10, 0),
+           (0, 0, 0, 0), (16, 1, 1, 16), (16, 7, 7, 16), (16, 6, 6, 16), (16, 11, 11, 16), (12, 10, 10, 12), (20, 10, 10, 20), (18, 10, 10, 16)]
 
 
 def allowed(nodes, children, cuts, index):
-    """Node room 1 to 4,096 records of four words, edge room 2 to 16,384, a cut for each edge, two index words for each record."""
+    """Node room 1 to 4,096 records of four words, edge room 2 to 16,384, a cut for each edge, four index words for each record."""
     room = len(nodes) // 4
     return (len(nodes) == room * 4 and 1 <= room <= 4096 and 2 <= len(children) <= 16384
-            and len(cuts) == len(children) and len(index) == room * 2)
+            and len(cuts) == len(children) and len(index) == room * 4)
+
+
+def hash_of(variable, kids, ks):
+    mixed = variable
+    for kid, k in zip(kids, ks):
+        mixed = (mixed * 1640531527 + kid * 805459861 + k - LOW) % 2**32
+    return mixed
+
+
+def chained(records, room, order):
+    """For each bucket its first node, for each node the next of its bucket, the one before it and its hash, in the order given."""
+    firsts, nexts, lasts = [0] * room, [0] * room, [0] * room
+    hashes = [hash_of(*record) for record in records]
+    for bucket in range(room):
+        chain = [n for n in order if hashes[n] * room // 2**32 == bucket]
+        firsts[bucket] = chain[0] + 1 if chain else 0
+        for n, m in zip(chain, chain[1:]):
+            nexts[n], lasts[m] = m + 1, n + 1
+    return firsts + nexts + lasts + hashes + [0] * (room - len(records))
 
 
 def rebuilt(records, room):
-    """Each node goes to the front of its bucket: the head becomes its number plus one, its next what the head was."""
-    heads, nexts = [0] * room, [0] * room
-    for n, (variable, kids, ks) in enumerate(records):
-        mixed = variable
-        for kid, k in zip(kids, ks):
-            mixed = (mixed * 1640531527 + kid * 805459861 + k - LOW) % 2**32
-        bucket = mixed * room // 2**32
-        nexts[n], heads[bucket] = heads[bucket], n + 1
-    return heads + nexts
+    """Nodes are ordered by hash, variable, number of edges, then child and cut of each edge; nodes that are the same, by number."""
+    def key(n):
+        variable, kids, ks = records[n]
+        return hash_of(*records[n]), variable, len(kids), [word for edge in zip(kids, ks) for word in edge]
+    return chained(records, room, sorted(range(len(records)), key=key))
+
+
+def all_records(nodes, children, cuts):
+    """Every record of the room, with its edges as far as there are so many."""
+    return [(variable, children[first:first + count], cuts[first:first + count])
+            for variable, count, first, _ in zip(*(nodes[k::4] for k in range(4)))]
 
 
 def node_ok(n, variable, kids, ks, variables):
@@ -104,7 +125,8 @@ def evaluate(table, places, bools, node_id):
 
 
 def part_words(name, sound):
-    """Each word of each slice of a sound table, set to each value, all other words as they were."""
+    """Each word of each slice of a sound table, set to each value, all other words as they were. But with room for one record or two, the
+    index of a table with a changed record or edge is what the records say then: else the hash would refuse it whatever rule is broken."""
     print(name, *check(*sound))
     asked = unchanged = taken = 0
     for part, at, values in ("nodes", 0, WORDS), ("children", 1, WORDS), ("cuts", 2, PLACES), ("index", 3, WORDS):
@@ -113,10 +135,21 @@ def part_words(name, sound):
             for value in values:
                 table = [list(words) for words in sound]
                 table[at][i] = value
+                if at < 3 and len(sound[3]) <= 8:
+                    table[3] = rebuilt(all_records(*table[:3]), len(sound[0]) // 4)
                 answers.append(check(*table)[0])
-                asked, unchanged, taken = asked + 1, unchanged + (table == sound), taken + (answers[-1] == 0)
+                asked, unchanged, taken = asked + 1, unchanged + (sound[at][i] == value), taken + (answers[-1] == 0)
             print(part, i, "".join(map(str, answers)))
     print("asked", asked, "unchanged", unchanged, "taken", taken)
+
+
+def part_orders(name, nodes, cuts):
+    """Two nodes of one hash, in the order of their numbers, which is the right one, and the other way round."""
+    table = [nodes, [0, 1, 0, 1, 0], cuts]
+    records = all_records(*table)
+    assert hash_of(*records[0]) == hash_of(*records[1])
+    for order in (0, 1), (1, 0):
+        print(name, *check(*table, chained(records, 2, order)))
 
 
 def cut_to(*lengths):
@@ -128,7 +161,7 @@ def part_lengths():
     for lengths in LENGTHS:
         print("lengths", *lengths, "number", check(*cut_to(*lengths))[0])
     for records, edges in (4096, 2), (4097, 2), (1, 16384), (1, 16385):
-        number = check([0] * 4 * records, [0] * edges, [0] * edges, [0] * 2 * records)[0]
+        number = check([0] * 4 * records, [0] * edges, [0] * edges, [0] * 4 * records)[0]
         print("empty", records, edges, "number", number)
 
 
@@ -165,7 +198,7 @@ def part_readings():
 
 def part_fresh():
     """Room full of 77s: with a length that is not allowed the first word of each slice stays, else all are zero."""
-    for lengths in (16, 10, 9, 8), (16, 9, 10, 8), (15, 10, 10, 8), (16, 10, 10, 7), (16, 1, 1, 8), (16, 10, 10, 8), (8, 2, 2, 4):
+    for lengths in (16, 10, 9, 16), (16, 9, 10, 16), (15, 10, 10, 16), (16, 10, 10, 15), (16, 1, 1, 16), (16, 10, 10, 16), (8, 2, 2, 8):
         junk = [[77] * n for n in lengths]
         good = allowed(*junk)
         after = [[0] * n for n in lengths] if good else junk
@@ -173,10 +206,13 @@ def part_fresh():
 
 
 part_words("sound", SOUND)
-part_words("boolean", [[40, 2, 0, 0], [0, 1, 0], [0, 0, 0], [1, 0]])
-part_words("range", [[3, 3, 0, 0], [0, 1, 0, 0], [-5, 10, 0, 0], [1, 0]])
-part_words("twins", [[40, 2, 0, 0, 46, 2, 2, 0], [0, 1, 0, 1], [0, 0, 0, 0], [2, 0, 0, 1]])
-part_words("parent", [[40, 2, 0, 0, 3, 2, 2, 0], [0, 1, 2, 0], [0, 0, 7, 0], [1, 2, 0, 0]])
+part_words("boolean", [[40, 2, 0, 0], [0, 1, 0], [0, 0, 0], [1, 0, 0, 411767173]])
+part_words("range", [[3, 3, 0, 0], [0, 1, 0, 0], [-5, 10, 0, 0], [1, 0, 0, 3091375842]])
+part_words("twins", [[40, 2, 0, 0, 46, 2, 2, 0], [0, 1, 0, 1], [0, 0, 0, 0], [1, 0, 2, 0, 0, 1, 411767173, 1824620459]])
+part_words("parent", [[40, 2, 0, 0, 3, 2, 2, 0], [0, 1, 2, 0], [0, 0, 7, 0], [1, 2, 0, 0, 0, 0, 411767173, 2418801138]])
+part_orders("cuts", [0, 2, 0, 0, 0, 2, 2, 0], [10 - 2**32, 0, 10, 0, 0])
+part_orders("variables", [0, 2, 0, 0, 1, 2, 2, 0], [10, 0, -1640531517, 0, 0])
+part_orders("edges", [0, 2, 0, 0, 0, 3, 2, 0], [10, 0, -100, 2461748013, 0])
 part_lengths()
 part_refusals()
 part_readings()

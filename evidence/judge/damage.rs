@@ -104,6 +104,22 @@ impl Composer<'_> {
         self.put_back(&before);
     }
 
+    /// Links the nodes wrongly, every other word as it must be, calls, and puts the words back. Nothing, if there are not two chains or a chain of
+    /// two for it.
+    pub fn damage_links(&mut self) {
+        let room = self.model.words().room().expect("the lengths are allowed");
+        let mut chains = Words::chains(room, self.model.records());
+        if !mislink(self.random, &mut chains) {
+            return;
+        }
+        let before = self.model.words().clone();
+        let mut wrong = before.clone();
+        wrong.relink(room, &chains);
+        self.put_back(&wrong);
+        self.call_on_damage();
+        self.put_back(&before);
+    }
+
     /// `check`, and a call or two; where the table is sound after all, `check` alone, so that it can be put back.
     fn call_on_damage(&mut self) {
         let sound = self.call(Check).number() == 0;
@@ -125,6 +141,29 @@ impl Composer<'_> {
         for (slice, word, value) in pokes(self.model.words(), to) {
             self.put(Poke { slice, word, value });
         }
+    }
+}
+
+/// Two chains joined, in the bucket of the first; a node moved to the bucket of another; or two neighbours of a chain exchanged.
+fn mislink(random: &mut Random, chains: &mut Vec<(usize, Vec<usize>)>) -> bool {
+    let at = random.below(chains.len().max(1));
+    if at + 1 < chains.len() && random.chance(60) {
+        if random.chance(50) {
+            let (_, behind) = chains.remove(at + 1);
+            chains[at].1.extend(behind);
+        } else {
+            let moved = chains[at + 1].1.remove(0);
+            chains[at].1.push(moved);
+        }
+        return true;
+    }
+    match chains.get_mut(at) {
+        Some((_, chain)) if chain.len() > 1 => {
+            let n = random.below(chain.len() - 1);
+            chain.swap(n, n + 1);
+            true
+        }
+        _ => false,
     }
 }
 

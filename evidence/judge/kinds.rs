@@ -3,13 +3,14 @@
 use std::ops::Bound;
 
 use source::ranges::{HIGHEST, LOWEST};
+use source::record::Edge;
 use source::stand_ins::MarkerOperator;
 
 use crate::composer::{Composer, Matter};
 use crate::damage;
 use crate::operation::{Bounds, Operation, Operation::*, SLICES};
 use crate::random::Random;
-use crate::words::{Room, MOST_EDGES, MOST_NODES};
+use crate::words::{cut_for, Record, Room, MOST_EDGES, MOST_NODES};
 
 /// Range and boolean variables, some at the ends of their numbers.
 fn some_variables(random: &mut Random, first: u32, count: usize) -> Vec<u32> {
@@ -182,6 +183,68 @@ impl Composer<'_> {
         }
     }
 
+    /// c) Nodes of one hash, which differ in variable, in the number of edges, in a child or in a cut alone: only these show how a bucket is
+    /// ordered behind the hash. The room is small mostly, so that nodes are taken back from among them; damage follows.
+    pub fn colliding(&mut self) {
+        self.choose(2, 2);
+        let nodes = self.random.between(6, 40);
+        self.lend(Room {
+            nodes,
+            edges: 4 * nodes,
+        });
+        let variables = [self.matter.ranges[0], self.matter.ranges[1]];
+        let switch = self.make(Boolean {
+            variable: self.matter.booleans[1],
+        });
+        let first = self.random.below(64) as i64 - 32;
+        let hash = split(variables[0], &[0, 1], &[first]).hash();
+        for _ in 0..self.times(8, 16) {
+            let variable = self.random.pick(&variables);
+            let call = match self.random.below(3) {
+                0 => below(
+                    variable,
+                    self.one_of_two(&split(variable, &[0, 1], &[0]), hash),
+                ),
+                1 => {
+                    let over = split(variable, &[switch, 1], &[0]);
+                    let cut = self.one_of_two(&over, hash);
+                    let x = self.make(below(variable, cut));
+                    And { x, y: switch }
+                }
+                _ => {
+                    let lower = 2 * (self.random.below(8) as i64 - (1 << 31));
+                    let cut = self.one_of_two(&split(variable, &[0, 1, 0], &[lower, 0]), hash);
+                    Range {
+                        variable,
+                        bounds: Bounds {
+                            lower: Bound::Included((lower / 2) as i32),
+                            upper: upper_of(cut),
+                        },
+                    }
+                }
+            };
+            self.make(call);
+            if self.random.chance(20) {
+                self.step();
+            }
+            if self.random.chance(20) {
+                self.damage_words();
+            }
+            if self.random.chance(20) {
+                self.damage_record();
+            }
+            if self.random.chance(20) {
+                self.damage_links();
+            }
+        }
+        self.call(Check);
+    }
+
+    /// One of the two cuts that give a record a hash.
+    fn one_of_two(&mut self, record: &Record, hash: u32) -> i64 {
+        cut_for(record, hash) + self.random.pick(&[0, 1 << 32])
+    }
+
     /// d) A sound table, damaged again and again.
     pub fn damaged(&mut self) {
         let ranges = self.random.between(1, 2);
@@ -199,10 +262,10 @@ impl Composer<'_> {
             self.step();
         }
         for _ in 0..self.times(4, 10) {
-            if self.random.chance(50) {
-                self.damage_words();
-            } else {
-                self.damage_record();
+            match self.random.below(5) {
+                0 | 1 => self.damage_words(),
+                2 | 3 => self.damage_record(),
+                _ => self.damage_links(),
             }
         }
         self.call(Check);
@@ -342,6 +405,46 @@ impl Composer<'_> {
             let call = self.any_call();
             self.call(call);
         }
+    }
+}
+
+/// A record with these children and cuts.
+fn split(variable: u32, children: &[u32], cuts: &[i64]) -> Record {
+    let cuts = cuts.iter().chain(&[0]);
+    let edges = children.iter().zip(cuts);
+    Record {
+        variable,
+        edges: edges
+            .map(|(child, cut)| Edge {
+                cut: *cut,
+                child: *child,
+            })
+            .collect(),
+    }
+}
+
+/// The condition that a variable lies below a cut.
+fn below(variable: u32, cut: i64) -> Operation {
+    let operator = if cut % 2 == 0 {
+        MarkerOperator::LessThan
+    } else {
+        MarkerOperator::LessEqual
+    };
+    let key = cut.div_euclid(2) as i32;
+    Comparison {
+        variable,
+        operator,
+        key,
+    }
+}
+
+/// The bound that ends at a cut.
+fn upper_of(cut: i64) -> Bound<i32> {
+    let key = cut.div_euclid(2) as i32;
+    if cut % 2 == 0 {
+        Bound::Excluded(key)
+    } else {
+        Bound::Included(key)
     }
 }
 

@@ -33,12 +33,13 @@ use random::Random;
 /// A kind of sequence, and how often it comes.
 type Kind = (usize, fn(&mut Composer<'_>));
 
-const KINDS: [Kind; 8] = [
+const KINDS: [Kind; 9] = [
     (30, |composer| composer.general()),
     (21, |composer| composer.booleans()),
-    (2, |composer| composer.tall()),
+    (4, |composer| composer.tall()),
     (21, |composer| composer.small_rooms()),
     (2, |composer| composer.wide()),
+    (4, |composer| composer.colliding()),
     (12, |composer| composer.damaged()),
     (10, |composer| composer.wrong_arguments()),
     (4, |composer| composer.wrong_lengths()),

@@ -274,8 +274,7 @@ impl Model {
             return Answer::Id { number: 6, id: 1 };
         }
         for record in new {
-            self.words
-                .append(room, self.records.len(), self.edges, &record);
+            self.words.append(room, &self.records, self.edges, &record);
             self.edges += record.edges.len();
             self.records.push(record);
         }

@@ -1,5 +1,6 @@
 //! The words that are lent, laid out by docs/LAYOUT.md and by nothing else: the judge's own picture of the kernel's slices.
 
+use std::collections::BTreeMap;
 use std::fmt::Write;
 
 use source::record::Edge;
@@ -11,7 +12,7 @@ pub const HELD: [usize; SLICES] = [
     4 * 4096 + 4,
     16384 + 1,
     16384 + 1,
-    2 * 4096 + 2,
+    4 * 4096 + 4,
     8 * 4096 + 8,
 ];
 
@@ -19,8 +20,9 @@ pub const HELD: [usize; SLICES] = [
 pub const MOST_NODES: usize = 4096;
 pub const MOST_EDGES: usize = 16384;
 
-/// The words of one record, and of one set of the memo.
+/// The words of one record, of the index for each record, and of one set of the memo.
 const RECORD: usize = 4;
+const INDEX: usize = 4;
 const SET: usize = 8;
 
 /// An id in a word of the memo, and the place of an entry's rank, which stands before two ids and an answer.
@@ -41,12 +43,11 @@ pub struct Room {
 impl Room {
     /// The lengths of the five slices, the memo as long as it may be.
     pub fn lengths(self) -> [usize; SLICES] {
-        let index = 2 * self.nodes;
         [
             RECORD * self.nodes,
             self.edges,
             self.edges,
-            index,
+            INDEX * self.nodes,
             SET * self.nodes,
         ]
     }
@@ -100,7 +101,7 @@ pub struct Record {
 
 impl Record {
     /// The hash of LAYOUT.md, "The index".
-    fn hash(&self) -> u32 {
+    pub fn hash(&self) -> u32 {
         let mut hash = self.variable;
         for edge in &self.edges {
             let position = (edge.cut + (1 << 32) + 1) as u32;
@@ -110,6 +111,19 @@ impl Record {
                 .wrapping_add(position);
         }
         hash
+    }
+
+    /// What a node stands by in its bucket: hash, variable, number of edges, then child and cut of each edge. Equal nodes, which no sound table
+    /// has, stand by their numbers.
+    fn key(&self, n: usize) -> (u32, u32, usize, Vec<(u32, i64)>, usize) {
+        let edges = self.edges.iter().map(|edge| (edge.child, edge.cut));
+        (
+            self.hash(),
+            self.variable,
+            self.edges.len(),
+            edges.collect(),
+            n,
+        )
     }
 }
 
@@ -208,17 +222,39 @@ impl Words {
         self.index.fill(0);
     }
 
-    /// Lays out node number `n`, whose first edge is edge `first`. Room is there.
-    pub fn append(&mut self, room: Room, n: usize, first: usize, record: &Record) {
+    /// Lays out the node behind some others, whose first edge is edge `first`. Room is there.
+    pub fn append(&mut self, room: Room, before: &[Record], first: usize, record: &Record) {
+        let n = before.len();
         let words = [record.variable, record.edges.len() as u32, first as u32, 0];
         self.nodes[RECORD * n..RECORD * (n + 1)].copy_from_slice(&words);
         for (i, edge) in record.edges.iter().enumerate() {
             self.children[first + i] = edge.child;
             self.cuts[first + i] = edge.cut;
         }
-        let bucket = room.bucket(record.hash());
-        self.index[room.nodes + n] = self.index[bucket];
-        self.index[bucket] = n as u32 + 1;
+        self.link(room, before, record);
+    }
+
+    /// The words of the index that the node behind some others changes. No chain is followed: of all nodes in its bucket its neighbours are the
+    /// nearest on either side.
+    fn link(&mut self, room: Room, before: &[Record], record: &Record) {
+        let (n, hash) = (before.len(), record.hash());
+        let bucket = room.bucket(hash);
+        let [nexts, lasts, hashes] = [1, 2, 3].map(|part| part * room.nodes);
+        let key = record.key(n);
+        let in_bucket = (0..n).filter(|m| room.bucket(self.index[hashes + m]) == bucket);
+        let (below, above): (Vec<_>, Vec<_>) = in_bucket
+            .map(|m| (before[m].key(m), m))
+            .partition(|(other, _)| *other < key);
+        let below = below.into_iter().max().map(|(_, m)| m);
+        let above = above.into_iter().min().map(|(_, m)| m);
+        let named = |node: Option<usize>| node.map_or(0, |m| m as u32 + 1);
+        self.index[hashes + n] = hash;
+        self.index[nexts + n] = named(above);
+        self.index[lasts + n] = named(below);
+        self.index[below.map_or(bucket, |m| nexts + m)] = named(Some(n));
+        if let Some(m) = above {
+            self.index[lasts + m] = named(Some(n));
+        }
     }
 
     /// The whole table of some records, beside a zero memo. Room is there.
@@ -226,10 +262,41 @@ impl Words {
         let mut words = Words::zero(room.lengths());
         let mut first = 0;
         for (n, record) in records.iter().enumerate() {
-            words.append(room, n, first, record);
+            words.append(room, &records[..n], first, record);
             first += record.edges.len();
         }
         words
+    }
+
+    /// The nodes of each bucket that has some, in their order.
+    pub fn chains(room: Room, records: &[Record]) -> Vec<(usize, Vec<usize>)> {
+        let mut chains: BTreeMap<usize, Vec<usize>> = BTreeMap::new();
+        for (n, record) in records.iter().enumerate() {
+            chains
+                .entry(room.bucket(record.hash()))
+                .or_default()
+                .push(n);
+        }
+        for chain in chains.values_mut() {
+            chain.sort_by_key(|n| records[*n].key(*n));
+        }
+        chains.into_iter().collect()
+    }
+
+    /// Links the nodes as these chains have them, right or wrong. The hashes stay.
+    pub fn relink(&mut self, room: Room, chains: &[(usize, Vec<usize>)]) {
+        let (nexts, lasts) = (room.nodes, 2 * room.nodes);
+        self.index[..3 * room.nodes].fill(0);
+        for (bucket, chain) in chains {
+            let mut word = *bucket;
+            let mut last = 0;
+            for n in chain {
+                self.index[word] = *n as u32 + 1;
+                self.index[lasts + n] = last;
+                word = nexts + n;
+                last = *n as u32 + 1;
+            }
+        }
     }
 
     /// Whether the table's four slices are the same.
@@ -262,4 +329,26 @@ fn show<T: PartialEq + std::fmt::Display>(line: &mut String, words: &[T], zero: 
         write!(line, "{word} ").expect("a string takes what is written");
     }
     line.push('|');
+}
+
+/// A cut for the edge before the last of a record, so that the record has a hash: the lower of two that do it, 2^32 apart. The hash is what it is
+/// with position 0 there, and the position times the factor.
+pub fn cut_for(record: &Record, hash: u32) -> i64 {
+    let mut at_zero = record.clone();
+    let edge = record.edges.len() - 2;
+    at_zero.edges[edge].cut = NO_POSITION;
+    let position = hash
+        .wrapping_sub(at_zero.hash())
+        .wrapping_mul(inverse(FACTOR));
+    i64::from(position.max(1)) + NO_POSITION
+}
+
+/// The number that has position 0: one below the lowest cut.
+const NO_POSITION: i64 = -(1 << 32) - 1;
+
+/// What an odd number is to be multiplied with to give 1, modulo 2^32: each turn doubles the bits that are right, of three at first.
+fn inverse(odd: u32) -> u32 {
+    (0..4).fold(odd, |guess, _| {
+        guess.wrapping_mul(2u32.wrapping_sub(odd.wrapping_mul(guess)))
+    })
 }

@@ -37,9 +37,9 @@ impl Room {
         self.edges
     }
 
-    /// The length of the slice `index`: two words a node.
+    /// The length of the slice `index`: four words a node.
     pub const fn index_words(self) -> usize {
-        2 * self.nodes
+        4 * self.nodes
     }
 
     /// The words of one set of a memo.

@@ -48,7 +48,7 @@ use core::ops::RangeBounds;
 /// The borrow checker sees to it that no memory is lent twice:
 ///
 /// ```compile_fail,E0499
-/// let (mut words, mut cuts, mut index) = ([0; 4], [0; 2], [0; 2]);
+/// let (mut words, mut cuts, mut index) = ([0; 4], [0; 2], [0; 4]);
 /// let table = spanwhistle::Table::lend(&mut words, &mut words, &mut cuts, &mut index);
 /// ```
 pub struct Table<'a> {

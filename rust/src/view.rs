@@ -16,7 +16,7 @@ use core::fmt;
 /// static NODES: [u32; 4] = [0, 2, 0, 0];
 /// static CHILDREN: [u32; 2] = [0, 1];
 /// static CUTS: [i64; 2] = [10, 0];
-/// static INDEX: [u32; 2] = [1, 0];
+/// static INDEX: [u32; 4] = [1, 0, 0, 1671437475];
 ///
 /// let table = View::of(&NODES, &CHILDREN, &CUTS, &INDEX);
 /// let below_5 = NodeId::from_number(2);

@@ -120,7 +120,7 @@ fn no_room_means_an_overlap_and_nothing_inside() {
 fn written_short() {
     let mut memory = Memory::new(Room::MOST);
     let table = memory.lend();
-    let lengths = "{ nodes: 16384, children: 16384, cuts: 16384, index: 8192 }";
+    let lengths = "{ nodes: 16384, children: 16384, cuts: 16384, index: 16384 }";
     assert_eq!(format!("{table:?}"), format!("Table {lengths}"));
     assert_eq!(format!("{:?}", table.view()), format!("View {lengths}"));
     assert_eq!(format!("{} {:>4}", NodeId::FALSE, id(15)), "1   15");
@@ -181,7 +181,7 @@ fn an_owned_table() -> Result<(), Refusal> {
     assert_eq!(owned.view().check().map(|used| used.nodes), Ok(3));
     assert_eq!(owned.view().is_disjoint(both, !a), Ok(true));
     assert_eq!(empty.view().check(), Ok(Used { nodes: 0, edges: 0 }));
-    let lengths = "{ nodes: 64, children: 64, cuts: 64, index: 32 }";
+    let lengths = "{ nodes: 64, children: 64, cuts: 64, index: 64 }";
     assert_eq!(format!("{owned:?}"), format!("OwnedTable {lengths}"));
     for (nodes, edges) in [(0, 2), (1, 1), (4097, 2), (1, 16385), (usize::MAX, 2)] {
         let refused = OwnedTable::new(Room { nodes, edges });

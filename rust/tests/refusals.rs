@@ -108,7 +108,7 @@ fn refusal_1_one_word_more_or_less() {
         |memory| memory.nodes.truncate(7),
         |memory| memory.children.truncate(4),
         |memory| memory.cuts.truncate(4),
-        |memory| memory.index.truncate(3),
+        |memory| memory.index.truncate(7),
     ];
     for change in lengthen.iter().chain(&shorten) {
         for call in testing_calls().chain([&FRESH]) {
@@ -146,7 +146,7 @@ fn refusal_1_memo() {
 
 #[test]
 fn refusal_2() {
-    let damages: [fn(&mut Memory); 7] = [
+    let damages: [fn(&mut Memory); 9] = [
         |memory| memory.nodes[0] = 64,   // no such variable
         |memory| memory.nodes[1] = 0,    // a hole in the records
         |memory| memory.nodes[6] = 1,    // edges that overlap
@@ -154,6 +154,8 @@ fn refusal_2() {
         |memory| memory.children[3] = 4, // a node below itself
         |memory| memory.cuts[2] = 16,    // cuts that do not rise
         |memory| memory.index.fill(0),   // an index that finds nothing
+        |memory| memory.index[6] ^= 1,   // a hash
+        |memory| memory.index[4] = 0,    // the second of a bucket, said to be its first
     ];
     for damage in damages {
         for call in testing_calls() {

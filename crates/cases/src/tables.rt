@@ -15,7 +15,7 @@ fn show_table(c: Count, list: List, made: usize, words: usize) -> Count {
     let mut nodes = [77u32; 64];
     let mut children = [77u32; 64];
     let mut cuts = [77i64; 64];
-    let mut index = [77u32; 32];
+    let mut index = [77u32; 64];
     let mut memo = [77u64; 128];
     if words > 128 {
         return show::judged(c, false);
@@ -74,7 +74,7 @@ fn lend(c: Count, asks: List, spare: u32, refuses: List) -> Count {
     let mut nodes = [0u32; 16];
     let mut children = [0u32; 12];
     let mut cuts = [0i64; 12];
-    let mut index = [0u32; 8];
+    let mut index = [0u32; 16];
     let mut memo = [0u64; 32];
     let c = run(
         &mut nodes,
@@ -113,13 +113,13 @@ fn lend_more(c: Count, records: usize, words: usize, list: List) -> Count {
     let mut nodes = [0u32; 16388];
     let mut children = [0u32; 512];
     let mut cuts = [0i64; 512];
-    let mut index = [0u32; 8194];
+    let mut index = [0u32; 16388];
     let mut memo = [0u64; 64];
     if records > 4097 || words > 64 {
         return show::judged(c, false);
     }
     let n = records * 4;
-    let x = records * 2;
+    let x = records * 4;
     run(
         &mut nodes[0..n],
         &mut children,

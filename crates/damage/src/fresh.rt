@@ -36,7 +36,7 @@ fn show_cut(k: i64) {
     }
 }
 
-fn show_first_words(nodes: &[u32; 16], children: &[u32; 10], cuts: &[i64; 10], index: &[u32; 8]) {
+fn show_first_words(nodes: &[u32; 16], children: &[u32; 10], cuts: &[i64; 10], index: &[u32; 16]) {
     show::text(b" first words ");
     show::number(nodes[0]);
     show::text(b" ");
@@ -50,7 +50,7 @@ fn show_room(n: usize, c: usize, k: usize, x: usize) {
     let mut nodes = [77u32; 16];
     let mut children = [77u32; 10];
     let mut cuts = [77i64; 10];
-    let mut index = [77u32; 8];
+    let mut index = [77u32; 16];
     let told = fresh_front(&mut nodes, &mut children, &mut cuts, &mut index, n, c, k, x);
     show::text(b"fresh ");
     show::lengths(n, c, k, x);
@@ -62,11 +62,11 @@ fn show_room(n: usize, c: usize, k: usize, x: usize) {
 }
 
 pub fn show_fresh() {
-    show_room(16, 10, 9, 8);
-    show_room(16, 9, 10, 8);
-    show_room(15, 10, 10, 8);
-    show_room(16, 10, 10, 7);
-    show_room(16, 1, 1, 8);
-    show_room(16, 10, 10, 8);
-    show_room(8, 2, 2, 4);
+    show_room(16, 10, 9, 16);
+    show_room(16, 9, 10, 16);
+    show_room(15, 10, 10, 16);
+    show_room(16, 10, 10, 15);
+    show_room(16, 1, 1, 16);
+    show_room(16, 10, 10, 16);
+    show_room(8, 2, 2, 8);
 }

@@ -10,7 +10,28 @@ const LONG_CHILDREN: [u32; 12] = [0, 1, 2, 0, 3, 0, 5, 0, 0, 0, 0, 0];
 
 const LONG_CUTS: [i64; 12] = [0, 0, -5, 10, 0, 5, 0, 0, 0, 0, 0, 0];
 
-const LONG_INDEX: [u32; 10] = [3, 0, 2, 0, 0, 0, 1, 0, 0, 0];
+const LONG_INDEX: [u32; 20] = [
+    1,
+    0,
+    2,
+    0,
+    3,
+    0,
+    0,
+    0,
+    0,
+    0,
+    1,
+    0,
+    411767173,
+    2978375512,
+    505234245,
+    0,
+    0,
+    0,
+    0,
+    0,
+];
 
 // The check of the first words of each slice.
 pub fn check_front(
@@ -48,36 +69,36 @@ fn show_prefix(n: usize, c: usize, k: usize, x: usize) {
 
 // Each slice one word too short and one too long.
 fn show_off_by_one() {
-    show_prefix(16, 10, 10, 8);
-    show_prefix(15, 10, 10, 8);
-    show_prefix(17, 10, 10, 8);
-    show_prefix(16, 9, 10, 8);
-    show_prefix(16, 11, 10, 8);
-    show_prefix(16, 10, 9, 8);
-    show_prefix(16, 10, 11, 8);
-    show_prefix(16, 10, 10, 7);
-    show_prefix(16, 10, 10, 9);
+    show_prefix(16, 10, 10, 16);
+    show_prefix(15, 10, 10, 16);
+    show_prefix(17, 10, 10, 16);
+    show_prefix(16, 9, 10, 16);
+    show_prefix(16, 11, 10, 16);
+    show_prefix(16, 10, 9, 16);
+    show_prefix(16, 10, 11, 16);
+    show_prefix(16, 10, 10, 15);
+    show_prefix(16, 10, 10, 17);
 }
 
 fn show_nothing_lent() {
-    show_prefix(0, 10, 10, 8);
+    show_prefix(0, 10, 10, 16);
     show_prefix(0, 10, 10, 0);
-    show_prefix(16, 0, 10, 8);
-    show_prefix(16, 10, 0, 8);
-    show_prefix(16, 0, 0, 8);
+    show_prefix(16, 0, 10, 16);
+    show_prefix(16, 10, 0, 16);
+    show_prefix(16, 0, 0, 16);
     show_prefix(16, 10, 10, 0);
     show_prefix(0, 0, 0, 0);
 }
 
 // Lengths that fit one another: too little room, just enough, less than the table uses, and room for which the index is another.
 fn show_other_rooms() {
-    show_prefix(16, 1, 1, 8);
-    show_prefix(16, 7, 7, 8);
-    show_prefix(16, 6, 6, 8);
-    show_prefix(16, 11, 11, 8);
-    show_prefix(12, 10, 10, 6);
-    show_prefix(20, 10, 10, 10);
-    show_prefix(18, 10, 10, 8);
+    show_prefix(16, 1, 1, 16);
+    show_prefix(16, 7, 7, 16);
+    show_prefix(16, 6, 6, 16);
+    show_prefix(16, 11, 11, 16);
+    show_prefix(12, 10, 10, 12);
+    show_prefix(20, 10, 10, 20);
+    show_prefix(18, 10, 10, 16);
 }
 
 // A table without nodes that has this room.
@@ -88,7 +109,7 @@ fn show_empty(records: usize, edges: usize) {
     let nodes = [0u32; 16388];
     let children = [0u32; 16385];
     let cuts = [0i64; 16385];
-    let index = [0u32; 8194];
+    let index = [0u32; 16388];
     let told = check_front(
         &nodes,
         &children,
@@ -97,7 +118,7 @@ fn show_empty(records: usize, edges: usize) {
         records * 4,
         edges,
         edges,
-        records * 2,
+        records * 4,
     );
     show::text(b"empty ");
     show::size(records);

@@ -1,4 +1,7 @@
-// Every word of five sound tables, set to each of sixteen values and put back.
+// Every word of five sound tables, set to each of sixteen values and put back. Of the four small tables the index is put right each time that a
+// word of a record or of an edge is changed. Then nodes of one hash, in both orders.
+use super::laid::lay;
+use super::laid::lay_in_order;
 use super::show;
 use super::sound::CHILDREN;
 use super::sound::CUTS;
@@ -90,7 +93,7 @@ fn try_node(
     nodes: &mut [u32],
     children: &[u32],
     cuts: &[i64],
-    index: &[u32],
+    index: &mut [u32],
     i: usize,
     value: u32,
 ) -> Answer {
@@ -102,8 +105,10 @@ fn try_node(
     }
     let old = nodes[i];
     nodes[i] = value;
+    lay(nodes, children, cuts, index);
     let told = check(nodes, children, cuts, index);
     nodes[i] = old;
+    lay(nodes, children, cuts, index);
     Answer {
         number: told.number,
         same: value == old,
@@ -114,7 +119,7 @@ fn try_child(
     nodes: &[u32],
     children: &mut [u32],
     cuts: &[i64],
-    index: &[u32],
+    index: &mut [u32],
     i: usize,
     value: u32,
 ) -> Answer {
@@ -126,8 +131,10 @@ fn try_child(
     }
     let old = children[i];
     children[i] = value;
+    lay(nodes, children, cuts, index);
     let told = check(nodes, children, cuts, index);
     children[i] = old;
+    lay(nodes, children, cuts, index);
     Answer {
         number: told.number,
         same: value == old,
@@ -138,7 +145,7 @@ fn try_cut(
     nodes: &[u32],
     children: &[u32],
     cuts: &mut [i64],
-    index: &[u32],
+    index: &mut [u32],
     i: usize,
     value: i64,
 ) -> Answer {
@@ -150,8 +157,10 @@ fn try_cut(
     }
     let old = cuts[i];
     cuts[i] = value;
+    lay(nodes, children, cuts, index);
     let told = check(nodes, children, cuts, index);
     cuts[i] = old;
+    lay(nodes, children, cuts, index);
     Answer {
         number: told.number,
         same: value == old,
@@ -317,43 +326,66 @@ fn show_sound() {
     show_table(&mut nodes, &mut children, &mut cuts, &mut index);
 }
 
-// With room for one record there is one bucket, so no damage to the node makes the index wrong: each rule has to refuse by itself.
+// A boolean node alone.
 fn show_boolean() {
     let mut nodes = [40u32, 2, 0, 0];
     let mut children = [0u32, 1, 0];
     let mut cuts = [0i64, 0, 0];
-    let mut index = [1u32, 0];
+    let mut index = [1u32, 0, 0, 411767173];
     show::text(b"boolean");
     show_table(&mut nodes, &mut children, &mut cuts, &mut index);
 }
 
+// A range node alone.
 fn show_range() {
     let mut nodes = [3u32, 3, 0, 0];
     let mut children = [0u32, 1, 0, 0];
     let mut cuts = [-5i64, 10, 0, 0];
-    let mut index = [1u32, 0];
+    let mut index = [1u32, 0, 0, 3091375842];
     show::text(b"range");
     show_table(&mut nodes, &mut children, &mut cuts, &mut index);
 }
 
-// Variable 46 has the bucket of 40, so the second node can be made the first again with the index still right.
+// Two nodes that one changed word makes twins.
 fn show_twins() {
     let mut nodes = [40u32, 2, 0, 0, 46, 2, 2, 0];
     let mut children = [0u32, 1, 0, 1];
     let mut cuts = [0i64, 0, 0, 0];
-    let mut index = [2u32, 0, 0, 1];
+    let mut index = [1u32, 0, 2, 0, 0, 1, 411767173, 1824620459];
     show::text(b"twins");
     show_table(&mut nodes, &mut children, &mut cuts, &mut index);
 }
 
-// With the cut 7 the second node keeps its bucket when its first child is complemented.
+// A node above another.
 fn show_parent() {
     let mut nodes = [40u32, 2, 0, 0, 3, 2, 2, 0];
     let mut children = [0u32, 1, 2, 0];
     let mut cuts = [0i64, 0, 7, 0];
-    let mut index = [1u32, 2, 0, 0];
+    let mut index = [1u32, 2, 0, 0, 0, 0, 411767173, 2418801138];
     show::text(b"parent");
     show_table(&mut nodes, &mut children, &mut cuts, &mut index);
+}
+
+// Two nodes of one hash, the first before the second, and then the other way round.
+fn show_orders(name: &[u8], nodes: &[u32; 8], children: &[u32; 5], cuts: &[i64; 5]) {
+    let mut index = [0u32; 8];
+    show::text(name);
+    lay_in_order(nodes, children, cuts, &mut index, true);
+    show::checked(check(nodes, children, cuts, &index));
+    show::text(name);
+    lay_in_order(nodes, children, cuts, &mut index, false);
+    show::checked(check(nodes, children, cuts, &index));
+}
+
+// They differ in the cut alone, by 2^32; in variable and cut; in the number of edges and a cut. All have the hash of variable 0 with the cut 10.
+fn show_one_hash() {
+    let two = [0u32, 2, 0, 0, 0, 2, 2, 0];
+    let other = [0u32, 2, 0, 0, 1, 2, 2, 0];
+    let three = [0u32, 2, 0, 0, 0, 3, 2, 0];
+    let pairs = [0u32, 1, 0, 1, 0];
+    show_orders(b"cuts", &two, &pairs, &[-4294967286i64, 0, 10, 0, 0]);
+    show_orders(b"variables", &other, &pairs, &[10i64, 0, -1640531517, 0, 0]);
+    show_orders(b"edges", &three, &pairs, &[10i64, 0, -100, 2461748013, 0]);
 }
 
 pub fn show_words() {
@@ -362,4 +394,5 @@ pub fn show_words() {
     show_range();
     show_twins();
     show_parent();
+    show_one_hash();
 }

@@ -6,7 +6,7 @@ use Rattle.replay.proofs.main.Statement.{statement}
 use Rattle.replay.proofs.main.Tie as tie
 
 abbrev Inv-loop : tie.InvT-loop
-Inv-loop nodes₀ children₀ cuts₀ index₀ memo₀ places₀ input₀ out₀ s₀ lines₀ nodes children cuts index memo places input out s lines = (16388 ≡ length nodes) × (16385 ≡ length children) × (16385 ≡ length cuts) × (8194 ≡ length index) × (32776 ≡ length memo) × (32 ≡ length places) × (65536 ≡ length input) × (65536 ≡ length out)
+Inv-loop nodes₀ children₀ cuts₀ index₀ memo₀ places₀ input₀ out₀ s₀ lines₀ nodes children cuts index memo places input out s lines = (16388 ≡ length nodes) × (16385 ≡ length children) × (16385 ≡ length cuts) × (16388 ≡ length index) × (32776 ≡ length memo) × (32 ≡ length places) × (65536 ≡ length input) × (65536 ≡ length out)
 
 abbrev μ-loop : tie.MeasureT-loop
 μ-loop nodes₀ children₀ cuts₀ index₀ memo₀ places₀ input₀ out₀ s₀ lines₀ nodes children cuts index memo places input out s lines = lines
