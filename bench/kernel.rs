@@ -78,7 +78,7 @@ macro_rules! side_below {
             }
             fn is_disjoint(&mut self, x: u32, y: u32) -> bool {
                 let t = &self.table;
-                unsafe { $from::below_disjoint(&t.nodes, &t.children, &t.cuts, t.used, x, y) }
+                unsafe { $from::below_disjoint(&t.nodes, &t.children, &t.cuts, x, y) }
             }
             fn restrict(&mut self, x: u32, v: u32, value: bool) -> u32 {
                 below!(self, $from::below_restrict, (memo), x, v as usize, value)

@@ -105,7 +105,6 @@ extern "C" {
         nodes: &[u32],
         children: &[u32],
         cuts: &[i64],
-        used: usize,
         x: u32,
         y: u32,
     ) -> bool;
