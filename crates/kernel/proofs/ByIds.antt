@@ -3,7 +3,7 @@
 use mathlib.Core.Path.{_≡_, refl, sym, _∙_, ap, subst}
 use mathlib.Core.Bool.{Bool, true, false, cond}
 use mathlib.Core.List.{List}
-use Prim.Native.Nat.{ℕ, _≤_}
+use Prim.Native.Nat.{ℕ}
 use native.Mathlib.Omega.{arith}
 use lib.ListN.{length, replicate, length-replicate}
 use lib.IntN.{ℤ}
@@ -18,7 +18,7 @@ use Rattle.table.proofs.Laws.{decided-true, decided-false}
 use Rattle.making.specs.declared.nodes.Used.{Used}
 use Rattle.making.specs.declared.nodes.Made.{Made}
 use Rattle.making.specs.Outcome.{Lent, tableOf}
-use Rattle.memo.specs.Recalling.{Framed, Cleared}
+use Rattle.memo.specs.Recalling.{Cleared}
 use Rattle.walks.specs.Walking.{Worked}
 use Rattle.kernel.specs.Makes.{wrongVariable, noRoom, made-1, made-3, made-4, BothKnown, WithMemo}
 use Rattle.kernel.specs.Admitting.{Admits, not-lent, admitted, AdmitsIds, ids-not-long, ids-not-lent, ids-not-known, ids-not-kind, ids-admitted}
@@ -55,11 +55,6 @@ cleared-lent memo {r} z l = subst (λ (n : ℕ). MemoLengths n r) (sym (cleared-
 
 pub cleared : {zeros : List ℕ} (memo : List ℕ) → zeros ≡ replicate (length memo) 0 → Cleared zeros
 cleared memo z = z ∙ ap (λ (i : ℕ). replicate i 0) (sym (cleared-long memo z))
-
--- and what an operation leaves can be cleared again
-pub clear-asked : {zeros : List ℕ} (memo : List ℕ) {r : ℕ} → zeros ≡ replicate (length memo) 0 → MemoLengths (length memo) r
-    → {h : Used} {want : Table × ℕ} {m : Made} {st : Store} {index : List ℕ} {st′ : Store} {index′ memo′ : List ℕ} → Worked h want m st index zeros st′ index′ memo′ → (1 ≤ length memo′) × Framed memo′
-clear-asked memo z l w = (omega (arith, l .some-sets, w .long, cleared-long memo z), w .framed)
 
 -- A call says in its own words that its ids are known.
 module _ (known : ℕ → Type 0) (kind : Type 0) (want : Table → Table × ℕ) (st : Store) (index memo : List ℕ) (x y : ℕ)

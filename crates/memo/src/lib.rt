@@ -250,9 +250,12 @@ pub fn remember(memo: &mut [u64], x: NodeId, y: NodeId, id: NodeId, v: usize)
 
 // Every word becomes zero again; those behind the sets in use are.
 pub fn clear(memo: &mut [u64])
-    requires { ⌜ (1 ≤ length (now memo)) × (Framed (now memo)) ⌝ }
+    requires { ⌜ Framed (now memo) ⌝ }
     ensures { λ _. ⌜ now (memo .exit) ≡ replicate (length (now (memo .entry))) 0 ⌝ }
 {
+    if memo.len() == 0 {
+        return;
+    }
     let end = sets_in(memo) * MEMO_WORDS;
     let mut i = 0;
     while i < end {

@@ -21,8 +21,11 @@ abbrev μ-loop : tie.MeasureT-loop
 loop-less : tie.Need-loop-less Inv-loop μ-loop
 loop-less c = omega arith
 
+returns : tie.Need-returns Inv-loop μ-loop
+returns c = filled-all 0 (c .before .before .args .memo .now) _ refl (λ j l. absurd (omega arith))
+
 loop-holds : tie.Need-loop-holds Inv-loop μ-loop
-loop-holds c = (omega arith, omega (arith, (c .before .before .before .pre .1 .within)), refl, λ j l. absurd (omega arith), λ j l. (c .before .before .before .pre .1 .tail) j (omega arith))
+loop-holds c = (omega arith, omega (arith, (c .before .before .before .before .pre .within)), refl, λ j l. absurd (omega arith), λ j l. (c .before .before .before .before .pre .tail) j (omega arith))
 
 loop-again : tie.Need-loop-again Inv-loop μ-loop
 loop-again c = (omega arith, simp length-set (c .before .loop .inv .1), simp length-set (c .before .loop .inv .2), filled-next 0 (c .before .loop .memo) (c .before .loop .i) (omega (arith, (c .before .loop .inv .1))) (c .before .loop .inv .3), λ j l. getD-set-other (c .before .loop .memo) (c .before .loop .i) j 0 0 (λ e. omega arith) ∙ (c .before .loop .inv .4) j l)
@@ -30,8 +33,8 @@ loop-again c = (omega arith, simp length-set (c .before .loop .inv .1), simp len
 same-length : tie.Need-same-length Inv-loop μ-loop
 same-length c = (c .before .loop .inv .2)
 
-returns : tie.Need-returns Inv-loop μ-loop
-returns c = filled-all 0 (c .before .loop .memo) _ (c .before .loop .inv .2) (λ j l. ⊎-elim (λ k. (c .before .loop .inv .3) j (omega arith)) (λ k. (c .before .loop .inv .4) j (omega arith)) (lt-or-le j (c .before .loop .i)))
+returns-2 : tie.Need-returns-2 Inv-loop μ-loop
+returns-2 c = filled-all 0 (c .before .loop .memo) _ (c .before .loop .inv .2) (λ j l. ⊎-elim (λ k. (c .before .loop .inv .3) j (omega arith)) (λ k. (c .before .loop .inv .4) j (omega arith)) (lt-or-le j (c .before .loop .i)))
 
 pub clear-spec : {M : Type 1} → statement M
 clear-spec =
@@ -39,6 +42,7 @@ clear-spec =
     (tie.spec
     Inv-loop
     μ-loop
+    returns
     (λ c κs. search needs)
     (λ c. search needs)
     loop-holds
@@ -48,4 +52,4 @@ clear-spec =
     loop-less
     loop-again
     same-length
-    returns)
+    returns-2)

@@ -1,7 +1,7 @@
 -- `changes_calls::restrict` has the one outcome that its contract allows. Assumes nothing.
 use mathlib.Core.Path.{_∙_}
 use native.Mathlib.Omega.{arith}
-use Rattle.kernel.proofs.ByIds.{ids-lent, cleared-lent, cleared, clear-asked, ids-refused, ids-answered, same-restrict}
+use Rattle.kernel.proofs.ByIds.{ids-lent, cleared-lent, cleared, ids-refused, ids-answered, same-restrict}
 use borrow.Author.Needs.{needs}
 use Rattle.kernel.proofs.changes_calls.restrict.Statement.{statement}
 use Rattle.kernel.proofs.changes_calls.restrict.Tie as tie
@@ -15,7 +15,7 @@ restrict-requires c κs =
     (l .0, cleared-lent (c .before .before .before .before .before .before .before .before .before .before .before .before .before .before .before .before .before .before .before .before .before .before .before .args .memo .now) (c .before .before .before .before .before .before .before .before .wipe .ensures) (l .1), cleared (c .before .before .before .before .before .before .before .before .before .before .before .before .before .before .before .before .before .before .before .before .before .before .before .args .memo .now) (c .before .before .before .before .before .before .before .before .wipe .ensures), l .2 .0, omega (arith, (c .wide .ensures .0), l .3))
 
 clear-requires : tie.Need-clear-requires
-clear-requires c κs = clear-asked (c .before .before .before .before .before .before .before .before .before .before .before .before .before .before .before .before .before .before .before .before .before .before .before .before .before .before .before .before .before .before .before .before .before .before .args .memo .now) (c .before .before .before .before .before .before .before .before .before .before .before .before .before .before .before .before .before .before .before .wipe .ensures) (ids-lent (c .before .before .before .before .before .before .before .before .before .before .before .before .before .before .before .before .before .before .before .before .before .before .before .before .before .before .before .before .before .is-variable .ensures) (c .before .before .before .before .before .before .before .before .before .before .before .before .before .before .before .before .before .before .before .before .before .before .before .before .admit-ids .ensures) (c .before .before .before .before .before .before .before .before .before .before .before .before .before .before .before .before .before .before .before .before .before .before .if1 .left) .1) (c .before .before .before .before .before .before .before .before .before .before .restrict .ensures)
+clear-requires c κs = c .before .before .before .before .before .before .before .before .before .before .restrict .ensures .framed
 
 returns-2 : tie.Need-returns-2
 returns-2 c =

@@ -2,7 +2,7 @@
 use mathlib.Core.Path.{_∙_}
 use native.Mathlib.Omega.{arith}
 use Rattle.ranges.proofs.Ends.{held-keyed}
-use Rattle.kernel.proofs.ByIds.{ids-lent, cleared-lent, cleared, clear-asked, ids-refused, ids-answered, same-widen}
+use Rattle.kernel.proofs.ByIds.{ids-lent, cleared-lent, cleared, ids-refused, ids-answered, same-widen}
 use borrow.Author.Needs.{needs}
 use Rattle.kernel.proofs.changes_calls.widen.Statement.{statement}
 use Rattle.kernel.proofs.changes_calls.widen.Tie as tie
@@ -18,7 +18,7 @@ widen-requires c κs =
     (l .0, cleared-lent (c .before .before .before .before .before .before .before .before .before .before .before .before .before .before .before .before .before .before .before .before .before .before .before .args .memo .now) (c .before .before .before .before .before .before .before .before .wipe .ensures) (l .1), cleared (c .before .before .before .before .before .before .before .before .before .before .before .before .before .before .before .before .before .before .before .before .before .before .before .args .memo .now) (c .before .before .before .before .before .before .before .before .wipe .ensures), l .2 .0, omega (arith, (c .wide .ensures .0), l .3))
 
 clear-requires : tie.Need-clear-requires
-clear-requires c κs = clear-asked (c .before .before .before .before .before .before .before .before .before .before .before .before .before .before .before .before .before .before .before .before .before .before .before .before .before .before .before .before .before .before .before .before .before .before .args .memo .now) (c .before .before .before .before .before .before .before .before .before .before .before .before .before .before .before .before .before .before .before .wipe .ensures) (ids-lent (c .before .before .before .before .before .before .before .before .before .before .before .before .before .before .before .before .before .before .before .before .before .before .before .before .before .before .before .before .before .is-range .ensures) (c .before .before .before .before .before .before .before .before .before .before .before .before .before .before .before .before .before .before .before .before .before .before .before .before .admit-ids .ensures) (c .before .before .before .before .before .before .before .before .before .before .before .before .before .before .before .before .before .before .before .before .before .before .if1 .left) .1) (c .before .before .before .before .before .before .before .before .before .before .widen .ensures)
+clear-requires c κs = c .before .before .before .before .before .before .before .before .before .before .widen .ensures .framed
 
 returns-2 : tie.Need-returns-2
 returns-2 c =

@@ -2,7 +2,7 @@
 use mathlib.Core.Path.{refl, _∙_}
 use Rattle.walks.proofs.Finished.{ready-zeroed}
 use Rattle.kernel.proofs.Deciding.{asks-none}
-use Rattle.kernel.proofs.ByIds.{ids-lent, cleared-lent, cleared, clear-asked, ids-refused, ids-answered}
+use Rattle.kernel.proofs.ByIds.{ids-lent, cleared-lent, cleared, ids-refused, ids-answered}
 use borrow.Author.Needs.{needs}
 use Rattle.kernel.proofs.joins_calls.and.Statement.{statement}
 use Rattle.kernel.proofs.joins_calls.and.Tie as tie
@@ -17,7 +17,7 @@ and-requires c κs =
     (ready-zeroed (l .0) (cleared-lent m (c .before .before .before .before .before .before .before .wipe .ensures) (l .1)) (cleared m (c .before .before .before .before .before .before .before .wipe .ensures)), l .2 .0, l .2 .1)
 
 clear-requires : tie.Need-clear-requires
-clear-requires c κs = clear-asked (c .before .before .before .before .before .before .before .before .before .before .before .before .before .before .before .before .before .before .before .before .before .before .before .before .before .before .before .before .before .before .before .before .args .memo .now) (c .before .before .before .before .before .before .before .before .before .before .before .before .before .before .before .before .before .before .wipe .ensures) (ids-lent asks-none (c .before .before .before .before .before .before .before .before .before .before .before .before .before .before .before .before .before .before .before .before .before .before .before .admit-ids .ensures) (c .before .before .before .before .before .before .before .before .before .before .before .before .before .before .before .before .before .before .before .before .before .if1 .left) .1) (c .before .before .before .before .before .before .before .before .before .before .and .ensures .worked)
+clear-requires c κs = c .before .before .before .before .before .before .before .before .before .before .and .ensures .worked .framed
 
 returns-2 : tie.Need-returns-2
 returns-2 c = ids-answered _ _ _ _ _ _ _ _ (λ u k. k) (λ u k. k) asks-none (c .before .before .before .before .before .before .before .before .before .before .before .before .before .before .before .before .before .before .before .before .before .before .before .before .before .before .before .admit-ids .ensures) (c .before .before .before .before .before .before .before .before .before .before .before .before .before .before .before .before .before .before .before .before .before .before .before .before .before .if1 .left) (c .before .before .before .before .before .before .before .before .before .before .before .before .before .before .before .before .before .before .before .before .before .before .wipe .ensures) (c .before .before .before .before .before .before .before .before .before .before .before .before .before .before .and .ensures .worked) (c .before .before .before .clear .ensures) refl (c .answer-of .ensures)
