@@ -201,7 +201,8 @@ uint32_t spanwhistle_fresh(SPANWHISTLE_LENDS);
 /*
  * Tests the table, as the calls below do at their start: ask it of a table read from flash before the first delivery.
  * Returns 0 exactly when the table is sound, or 1 or 2. Writes the number of used nodes and edges beside 0, and 0 and 0 beside a refusal.
- * Its work goes with the lengths: one step a node and one a word, whatever was lent (TODO-MEASURE).
+ * Its work goes with the lengths and the edges, whatever was lent: a table of 4,096 nodes and 16,384 edges takes some 55 microseconds on a
+ * Xeon, and no table that we built took three times as long (docs/TESTING.md).
  */
 SPANWHISTLE_MUST_USE
 uint32_t spanwhistle_check(SPANWHISTLE_SHOWS, size_t *used_nodes, size_t *used_edges);
@@ -263,8 +264,9 @@ uint32_t spanwhistle_not(uint32_t id);
  * Each returns 0, or 1 (also where the memo is not 1 to R whole sets of eight words), 2, 3 or 6. Each writes the id, SPANWHISTLE_FALSE beside
  * a refusal. Beside 0 it adds to the table the nodes of the answer that are missing, and no other. Beside 0 and 6 the memo is all zero after the call;
  * beside another refusal it is as it was.
- * The memo has up to eight entries a set, and entries overwrite one another: on tables built for it a call can take long (TODO-MEASURE: the
- * worst that is known). The calls below that are lent a memo use it alike; no worst of them is known.
+ * The memo has up to eight entries a set, and entries overwrite one another: conditions whose nodes have many edges can want more pairs than it
+ * holds, and then pairs are worked out again. The worst that is known is 189 nodes in room for 189, with a memo of 189 sets: about a second. The
+ * calls below that are lent a memo use it alike; no worst of them is known.
  */
 SPANWHISTLE_MUST_USE
 uint32_t spanwhistle_and(SPANWHISTLE_LENDS, uint64_t *memo, size_t memo_len, uint32_t x, uint32_t y, uint32_t *id);
@@ -274,8 +276,8 @@ uint32_t spanwhistle_or(SPANWHISTLE_LENDS, uint64_t *memo, size_t memo_len, uint
 /*
  * Are x and y apart, so that no reading makes both hold? Two rules whose conditions are apart never correct the same delivery.
  * Returns 0, or 1, 2 or 3. Writes 1 (yes, apart) or 0 (no, they overlap) to `yes`, and 0 beside a refusal; not the table.
- * It has no memo: of large conditions that share much of their shape it may take long (its work may double with each variable; two rules
- * over 63 variables, in 2 KB of text, had no answer after two minutes). The way out is spanwhistle_and, which has a memo: x and y are apart
+ * It is lent no memo and has one of its own, 4 KB on the stack, which holds some 500 pairs of ids: of large conditions that share much of
+ * their shape it may take long. The way out is spanwhistle_and with a memo as large as you like: x and y are apart
  * exactly when it writes SPANWHISTLE_FALSE. Where it is told 6 they overlap: every table holds FALSE, so the answer is another.
  */
 SPANWHISTLE_MUST_USE

@@ -70,8 +70,8 @@ impl<'a> View<'a> {
 
     /// Are the two apart, so that no reading makes both hold? FALSE is apart from everything, itself included.
     ///
-    /// It has no memo, and its work may double with each variable. Where that may happen, ask [`Table::and`](crate::Table::and), which has one:
-    /// two conditions are apart exactly when the id of both is FALSE.
+    /// Its own memo holds some 500 pairs of ids. Where conditions are larger, ask [`Table::and`](crate::Table::and), which is lent one: two
+    /// conditions are apart exactly when the id of both is FALSE.
     ///
     /// # Errors
     ///

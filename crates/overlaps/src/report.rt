@@ -72,7 +72,7 @@ fn relation_of(both: Answer, x: NodeId, y: NodeId) -> Relation {
     Relation::Overlap
 }
 
-// Decided by one `and`, and never by `is_disjoint`, whose work may double with each variable. The nodes of the answer stay in the table.
+// Decided by one `and`, and never by `is_disjoint`, whose memo is small. The nodes of the answer stay in the table.
 fn related(
     nodes: &mut [u32],
     children: &mut [u32],
