@@ -1,8 +1,7 @@
 /*
  * Spanwhistle: compares the conditions of correction rules exactly. This header is for C99 and C++; link target/staticlib/libspanwhistle.a,
  * which `rt staticlib spanwhistle` makes, or `tools/install` with a pkg-config file. The archive needs memcpy and memset and nothing else. It
- * has 29 KB of code and constants, if all calls are linked, and no data (28,726, 0 and 0 bytes of text, data and bss by `size`, x86-64;
- * TODO-MEASURE).
+ * has 35 KB of code and constants, if all calls are linked, and no data (35,101, 0 and 0 bytes of text, data and bss by `size`, x86-64).
  *
  * WHAT A TABLE IS
  *
@@ -58,18 +57,18 @@
  * nothing (spanwhistle_check, spanwhistle_evaluate, spanwhistle_is_disjoint) on the same table too.
  *
  * Calls that walk down a table call themselves, once for each variable on the way, and most of them with an array of 64 edges each time
- * (`and` and `or` at range variables alone). They need a deep stack. Enough in our deepest test were 91,544 bytes for `restrict`, 83,432
- * for `and` and `or`, 53,112 for `widen`, 48,968 for `narrow`, 11,336 for `is_disjoint`, 2,616 for a condition and 400 for the rest. The
+ * (`and` and `or` at range variables alone). They need a deep stack. Enough in our deepest test were 91,840 bytes for `restrict`, 82,384
+ * for `and` and `or`, 52,896 for `widen`, 48,752 for `narrow`, 39,320 for `is_disjoint`, 2,896 for a condition and 400 for the rest. The
  * test is examples/stack.c: conditions over all 64 variables, on x86-64 with this project's compiler. It is measured and not proved, and
- * another machine has other figures (TODO-MEASURE: all of them). SPANWHISTLE_STACK_JOIN and the like are these, rounded up. Conditions that
+ * another machine has other figures. SPANWHISTLE_STACK_JOIN and the like are these, rounded up. Conditions that
  * test fewer variables take less:
  *
  *     variables         2       4       8      16      32      64
- *     and, or       3,848   7,784  15,656  31,400  62,888  83,432
- *     restrict      4,248   7,064  12,696  23,960  46,488  91,544
- *     narrow        4,328   7,208  12,968  24,488  47,528  48,968
- *     widen         8,472  11,352  17,112  28,632  51,672  53,112
- *     is_disjoint     424     776   1,480   2,888   5,704  11,336
+ *     and, or       4,112   8,080  16,016  31,888  63,632  82,384
+ *     restrict      4,544   7,360  12,992  24,256  46,784  91,840
+ *     narrow        4,608   7,456  13,152  24,544  47,328  48,752
+ *     widen         8,696  11,544  17,240  28,632  51,416  52,896
+ *     is_disjoint   5,096   6,216   8,456  12,936  21,896  39,320
  *
  * where all variables but one are ranges, as far as there are: a boolean takes `and` and `or` less, and narrow and widen go no deeper than
  * their variable. SPANWHISTLE_STACK_JOIN_OF(V) and the like are enough for V variables in the same test. What interrupts need on the same stack
@@ -150,19 +149,19 @@ static inline const char *spanwhistle_name(uint32_t number) {
 #define SPANWHISTLE_INCLUDES 1u
 #define SPANWHISTLE_EXCLUDES 2u
 
-/* Stack in bytes, measured and rounded up: see above. TODO-MEASURE */
+/* Stack in bytes, measured and rounded up: see above. */
 #define SPANWHISTLE_STACK_JOIN (88u * 1024u)     /* spanwhistle_and, spanwhistle_or */
 #define SPANWHISTLE_STACK_RESTRICT (96u * 1024u) /* spanwhistle_restrict */
 #define SPANWHISTLE_STACK_NARROW (56u * 1024u)   /* spanwhistle_narrow, spanwhistle_widen */
-#define SPANWHISTLE_STACK_DISJOINT (12u * 1024u) /* spanwhistle_is_disjoint */
+#define SPANWHISTLE_STACK_DISJOINT (40u * 1024u) /* spanwhistle_is_disjoint */
 #define SPANWHISTLE_STACK_CONDITION (3u * 1024u) /* the six comparisons, spanwhistle_from_range, spanwhistle_from_bool */
 #define SPANWHISTLE_STACK_READ 1024u             /* spanwhistle_check, spanwhistle_fresh, spanwhistle_evaluate, spanwhistle_not */
 
-/* The same where the conditions test no more than V variables between them. TODO-MEASURE */
+/* The same where the conditions test no more than V variables between them. */
 #define SPANWHISTLE_STACK_JOIN_OF(V) (512u + 2000u * (V))
 #define SPANWHISTLE_STACK_RESTRICT_OF(V) (2048u + 1440u * (V))
 #define SPANWHISTLE_STACK_NARROW_OF(V) (6144u + 1456u * (V))
-#define SPANWHISTLE_STACK_DISJOINT_OF(V) (512u + 184u * (V))
+#define SPANWHISTLE_STACK_DISJOINT_OF(V) (4096u + 560u * (V))
 
 /* A table that you lend, to write it once: `spanwhistle_and(SPANWHISTLE_LENT(t), memo, memo_len, x, y, &id)`. */
 typedef struct spanwhistle_table {
