@@ -125,8 +125,7 @@ fn ids_disjoint(
     nodes_disjoint(nodes, children, cuts, noted, x, y, ahead, rest)
 }
 
-// Two nodes that the opening tests leave: their edges, at the first variable of the two. Apart from `ids_disjoint`, so that the opening tests
-// become a part of the loops, and only pairs that have to be walked are called for.
+// Two nodes that the opening tests leave: their edges, at the first variable of the two.
 fn nodes_disjoint(
     nodes: &[u32],
     children: &[u32],
