@@ -1,5 +1,5 @@
 -- The opening tests, and the way down from two ids that they leave. Assumes nothing.
-use mathlib.Core.Path.{_≡_, refl, sym, _∙_, ap₂}
+use mathlib.Core.Path.{_≡_, refl, sym, _∙_, ap, ap₂}
 use mathlib.Core.Bool.{Bool, true, false, _&&_, _||_, true≢false, false≢true}
 use mathlib.Core.List.{List}
 use mathlib.Core.Logic.{_⊎_, inl, inr}
@@ -8,11 +8,13 @@ use native.Mathlib.Omega.{arith}
 use borrow.Author.Tests.{lt-ltb, le-ltb, eqb-false}
 use lib.Dec.{eqb}
 use lib.ListN.{length}
-use Rattle.ids.specs.Id.{TRUE, FALSE, ref, flip}
-use Rattle.diagram.specs.Table.{variables, firstBoolean, topOf, Table, at, value}
+use Rattle.ids.specs.Id.{ref, sign, flip}
+use Rattle.diagram.specs.Table.{variables, firstBoolean, topOf, flipped, Table, at, value}
 use Rattle.diagram.specs.Cofactor.{edgesOf}
 use Rattle.diagram.specs.Sound.{Child}
 use Rattle.diagram.proofs.Either.{neither-true}
+use Rattle.diagram.proofs.Facts.{origin}
+use Rattle.diagram.proofs.Apart.{value-origin}
 use Rattle.diagram.proofs.Piecewise.{each-imp}
 use Rattle.algebra.specs.Disjointness.{disjoint-step, disjoint}
 use Rattle.algebra.proofs.Disjoint.{Answer, never, meet, answer-yes, answered}
@@ -21,15 +23,8 @@ use Rattle.memo.proofs.Recalled.{hit-was-noted, noted-true}
 use Rattle.views.specs.Seeing.{usedIn, Readable, seen, Sees, Views}
 use Rattle.views.specs.declared.View.{View}
 use Rattle.views.proofs.Sights.{seen-range, seen-bool, views-rising, views-kids, views-inside, bool-count-le-two, known-held, known-used, record-inside, first-variable-is, sees-views, call-left}
-use Rattle.disjointness.specs.Asking.{whole, apart, Excluding, AskedIn, Listed, AskedPair, AskedSides}
+use Rattle.disjointness.specs.Asking.{whole, apart, Opposed, Agreeing, Excluding, AskedIn, Listed, AskedPair, AskedSides}
 use Rattle.table.specs.Layout.{varAt, Store}
-
--- what they ask
-abbrev pub Opposed : ℕ → ℕ → Bool
-Opposed x y = eqb x FALSE || (eqb y FALSE || eqb (flip x) y)
-
-abbrev pub Agreeing : ℕ → ℕ → Bool
-Agreeing x y = eqb x TRUE || (eqb y TRUE || eqb x y)
 
 module _ (t : Table) (x y : ℕ) where
   disjoint-yes : (n : ℕ) → 1 ≤ n → Opposed x y ≡ true → true ≡ disjoint n t x y
@@ -125,6 +120,14 @@ module _ {st : Store} {noted : List ℕ} {n x y : ℕ} (q : AskedPair st noted n
 
   pub opening-no : {p g : Bool} → p ≡ Opposed x y → p ≡ false → g ≡ Agreeing x y → g ≡ true → false ≡ disjoint n t x y
   opening-no d o e h = disjoint-no t x y n some-ahead (sym d ∙ o) (sym e ∙ h)
+
+  -- two even ids hold where every position is the first
+  pub even-no : sign x ≡ 0 → sign y ≡ 0 → false ≡ disjoint n t x y
+  even-no e f = meets answer (value-origin t (r .sound) x (known-held st u x (q .left .known)) ∙ ap (λ (s : ℕ). flipped s true) e) (value-origin t (r .sound) y (known-held st u y (q .right .known)) ∙ ap (λ (s : ℕ). flipped s true) f)
+    where
+      meets : {z : Bool} → Answer t x y z → value t origin x ≡ true → value t origin y ≡ true → false ≡ z
+      meets (meet b) i j = refl
+      meets (never h) i j = absurd (true≢false (sym (ap₂ _&&_ i j) ∙ h origin))
 
   -- the pair in order has ids that an entry has room for
   module _ {f g : ℕ} (w : Ordered x y f g) where

@@ -1,10 +1,12 @@
 -- What disjointness asks of a lent table and of its memo, and what it answers. Document 01, step 6. Assumes nothing.
 use mathlib.Core.Path.{_≡_}
-use mathlib.Core.Bool.{Bool, true, false, _&&_}
+use mathlib.Core.Bool.{_||_, Bool, true, false, _&&_}
 use mathlib.Core.List.{List}
 use mathlib.Core.Logic.{_⊎_}
 use Prim.Native.Nat.{ℕ, _*_, _≤_}
+use lib.Dec.{eqb}
 use lib.ListN.{length}
+use Rattle.ids.specs.Id.{TRUE, FALSE, flip}
 use Rattle.diagram.specs.Pieces.{Pieces, Each, Rising}
 use Rattle.diagram.specs.Table.{firstBoolean, topOf, Table, Assignment, value}
 use Rattle.algebra.specs.Overlay.{overlay}
@@ -19,6 +21,14 @@ use Rattle.disjointness.specs.declared.Tried.{Tried}
 -- The table that is held.
 abbrev pub whole : Store → Table
 whole st = held st (usedIn (st .nodes))
+
+-- What the opening tests ask: one is FALSE or they are opposite,
+abbrev pub Opposed : ℕ → ℕ → Bool
+Opposed x y = eqb x FALSE || (eqb y FALSE || eqb (flip x) y)
+
+-- and one is TRUE or they are equal.
+abbrev pub Agreeing : ℕ → ℕ → Bool
+Agreeing x y = eqb x TRUE || (eqb y TRUE || eqb x y)
 
 -- "The answer is no at the first overlapping pair of edges whose children aren't disjoint."
 unfoldable pub apart : ℕ → Table → Pieces ℕ → Pieces ℕ → Bool

@@ -1,14 +1,13 @@
 // Whether two conditions exclude each other. Document 01, step 6: `is_disjoint` and `is_disjoint_ranges` of the source. No node is made. Pairs
 // that were found to exclude each other can be noted in a memo: without it the work may double with each variable.
 ghost use mathlib.Core.Path.{_≡_};
-ghost use mathlib.Core.Bool.{_||_};
-ghost use lib.Dec.{eqb};
-ghost use Rattle.ids.specs.Id.{TRUE};
+ghost use mathlib.Core.Bool.{true, false};
+ghost use Rattle.ids.specs.Id.{sign};
 ghost use Rattle.ids.specs.Index.{KnownTo};
 ghost use Rattle.diagram.specs.Table.{firstBoolean};
 ghost use Rattle.algebra.specs.Disjointness.{disjoint, is-disjoint};
 ghost use Rattle.views.specs.Seeing.{usedIn, Readable, seen};
-ghost use Rattle.disjointness.specs.Asking.{whole, apart, AskedPair, AskedSides, Answers};
+ghost use Rattle.disjointness.specs.Asking.{whole, apart, Opposed, Agreeing, AskedPair, AskedSides, Answers};
 ghost use Rattle.table.specs.Layout.{store};
 use ids::NodeId;
 use memo::in_order;
@@ -67,7 +66,7 @@ fn noted_disjoint(nodes: &[u32], children: &[u32], cuts: &[i64], x: NodeId, y: N
 
 // One is TRUE, or they are equal: not disjoint, since the other is not FALSE.
 fn agreeing(x: NodeId, y: NodeId) -> bool
-    ensures { λ r. ⌜ r ≡ (eqb (x .0) TRUE || (eqb (y .0) TRUE || eqb (x .0) (y .0))) ⌝ }
+    ensures { λ r. ⌜ r ≡ Agreeing (x .0) (y .0) ⌝ }
 {
     if x.is_true() {
         return true;
@@ -76,6 +75,16 @@ fn agreeing(x: NodeId, y: NodeId) -> bool
         return true;
     }
     x.0 == y.0
+}
+
+// Whether both are even. An even id holds at the lowest place of every range variable with every boolean yes (theorem 7): so two of them meet.
+fn both_even(x: NodeId, y: NodeId) -> bool
+    ensures { λ r. ⌜ (r ≡ true → (sign (x .0) ≡ 0) × (sign (y .0) ≡ 0)) ⌝ }
+{
+    if x.0 % 2 == 1 {
+        return false;
+    }
+    y.0 % 2 == 0
 }
 
 // What a walk found. A no beside a rest of 0 is no answer: the walk may have given up.
@@ -100,7 +109,12 @@ fn ids_disjoint(
     requires { ⌜ AskedPair (store (now nodes) (now children) (now cuts)) (now noted) ahead (x .0) (y .0) ⌝ }
     ensures { λ r. ⌜ Answers (store (now (nodes .entry)) (now (children .entry)) (now (cuts .entry))) (now (noted .exit)) rest (disjoint ahead (whole (store (now (nodes .entry)) (now (children .entry)) (now (cuts .entry)))) (x .0) (y .0)) r ⌝ }
 {
-    // First, for the sake of FALSE: it is equal to itself, and disjoint with itself all the same.
+    // The source has no such test and goes down to find out. Of any two ids one pair in four ends here, and so does a walk as soon as it
+    // comes to such a pair.
+    if both_even(x, y) {
+        return Tried { yes: false, rest };
+    }
+    // Before the test for equal ids, for the sake of FALSE: it is equal to itself, and disjoint with itself all the same.
     if opposed(x, y) {
         return Tried { yes: true, rest };
     }
@@ -108,6 +122,23 @@ fn ids_disjoint(
     if agreeing(x, y) {
         return Tried { yes: false, rest };
     }
+    nodes_disjoint(nodes, children, cuts, noted, x, y, ahead, rest)
+}
+
+// Two nodes that the opening tests leave: their edges, at the first variable of the two.
+fn nodes_disjoint(
+    nodes: &[u32],
+    children: &[u32],
+    cuts: &[i64],
+    noted: &mut [u64],
+    x: NodeId,
+    y: NodeId,
+    ahead: usize,
+    rest: usize,
+) -> Tried
+    requires { ⌜ (AskedPair (store (now nodes) (now children) (now cuts)) (now noted) ahead (x .0) (y .0)) × (Opposed (x .0) (y .0) ≡ false) × (Agreeing (x .0) (y .0) ≡ false) ⌝ }
+    ensures { λ r. ⌜ Answers (store (now (nodes .entry)) (now (children .entry)) (now (cuts .entry))) (now (noted .exit)) rest (disjoint ahead (whole (store (now (nodes .entry)) (now (children .entry)) (now (cuts .entry)))) (x .0) (y .0)) r ⌝ }
+{
     // A no, since that ends the whole walk.
     if rest == 0 {
         return Tried { yes: false, rest };

@@ -16,4 +16,9 @@ returns-3 c = or-rest _ _ _ (sym (c .before .before .before .before .before .is-
 
 pub agreeing-spec : {M : Type 1} → statement M
 agreeing-spec =
-    tie.close (tie.spec (λ c κs. search needs) returns (λ c κs. search needs) returns-2 returns-3)
+    tie.close (tie.spec
+    (λ c κs. search needs)
+    returns
+    (λ c κs. search needs)
+    returns-2
+    returns-3)

@@ -14,4 +14,8 @@ returns c = noting-answer 512 (omega arith) (c .before .ids-disjoint .kept .1 .1
 pub noted-disjoint-spec : {M : Type 1} → statement M
 noted-disjoint-spec =
     tie.close
-    (tie.spec (λ c. search needs) (λ c. search needs) ids-disjoint-requires returns)
+    (tie.spec
+    (λ c. search needs)
+    (λ c. search needs)
+    ids-disjoint-requires
+    returns)

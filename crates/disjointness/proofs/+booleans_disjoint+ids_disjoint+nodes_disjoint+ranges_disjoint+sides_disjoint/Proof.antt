@@ -1,5 +1,5 @@
 -- `ids_disjoint` meets its contract, with the functions that it goes down by. Assumes nothing.
-use mathlib.Core.Path.{_≡_, refl, _∙_}
+use mathlib.Core.Path.{_≡_, refl, sym, _∙_}
 use mathlib.Core.Bool.{true}
 use mathlib.Core.Logic.{inl, ⊎-elim}
 use Prim.Native.Nat.{ℕ, _+_, _-_, _*_, _<_}
@@ -10,22 +10,26 @@ use Rattle.table.specs.Layout.{store}
 use Rattle.disjointness.specs.Asking.{whole}
 use Rattle.disjointness.proofs.Walks.{children-asked, cuts-inside, Walked, Turned, turned-at, Beside, beside-at, walk-starts, walk-no, walk-left, walk-right, walk-both}
 use Rattle.disjointness.proofs.Pairs.{high-no, high-yes}
-use Rattle.disjointness.proofs.Opening.{gave-up, sure-no, some-ahead, left-inside, right-inside, opening-yes, opening-no, ids-small, recalled-yes, noted-listed, left-node, right-node, variable-known, sides-asked, sides-answer, range-sides, range-answer, bool-sides, bool-answer}
+use Rattle.disjointness.proofs.Opening.{even-no, gave-up, sure-no, some-ahead, left-inside, right-inside, opening-yes, opening-no, ids-small, recalled-yes, noted-listed, left-node, right-node, variable-known, sides-asked, sides-answer, range-sides, range-answer, bool-sides, bool-answer}
 use borrow.Fn.Kinds.{In}
 use borrow.Fn.PlainCycle.{Measures, is, falls, and}
 use Rattle.disjointness.proofs.booleans_disjoint.Reads as booleans-disjoint
 use Rattle.disjointness.proofs.booleans_disjoint.Kinds as booleans-disjoint-kinds
-use Rattle.disjointness.proofs.+booleans_disjoint+ids_disjoint+ranges_disjoint+sides_disjoint.Lts-booleans_disjoint as booleans-disjoint-lts
+use Rattle.disjointness.proofs.+booleans_disjoint+ids_disjoint+nodes_disjoint+ranges_disjoint+sides_disjoint.Lts-booleans_disjoint as booleans-disjoint-lts
 use Rattle.disjointness.proofs.ids_disjoint.Reads as ids-disjoint
 use Rattle.disjointness.proofs.ids_disjoint.Kinds as ids-disjoint-kinds
-use Rattle.disjointness.proofs.+booleans_disjoint+ids_disjoint+ranges_disjoint+sides_disjoint.Lts-ids_disjoint as ids-disjoint-lts
+use Rattle.disjointness.proofs.+booleans_disjoint+ids_disjoint+nodes_disjoint+ranges_disjoint+sides_disjoint.Lts-ids_disjoint as ids-disjoint-lts
+use Rattle.disjointness.proofs.nodes_disjoint.Reads as nodes-disjoint
+use Rattle.disjointness.proofs.nodes_disjoint.Kinds as nodes-disjoint-kinds
+use Rattle.disjointness.proofs.+booleans_disjoint+ids_disjoint+nodes_disjoint+ranges_disjoint+sides_disjoint.Lts-nodes_disjoint as nodes-disjoint-lts
 use Rattle.disjointness.proofs.ranges_disjoint.Reads as ranges-disjoint
 use Rattle.disjointness.proofs.ranges_disjoint.Kinds as ranges-disjoint-kinds
-use Rattle.disjointness.proofs.+booleans_disjoint+ids_disjoint+ranges_disjoint+sides_disjoint.Lts-ranges_disjoint as ranges-disjoint-lts
+use Rattle.disjointness.proofs.+booleans_disjoint+ids_disjoint+nodes_disjoint+ranges_disjoint+sides_disjoint.Lts-ranges_disjoint as ranges-disjoint-lts
 use Rattle.disjointness.proofs.sides_disjoint.Reads as sides-disjoint
 use Rattle.disjointness.proofs.sides_disjoint.Kinds as sides-disjoint-kinds
-use Rattle.disjointness.proofs.+booleans_disjoint+ids_disjoint+ranges_disjoint+sides_disjoint.Lts-sides_disjoint as sides-disjoint-lts
+use Rattle.disjointness.proofs.+booleans_disjoint+ids_disjoint+nodes_disjoint+ranges_disjoint+sides_disjoint.Lts-sides_disjoint as sides-disjoint-lts
 use Rattle.disjointness.proofs.agreeing.Reads as agreeing-reads
+use Rattle.disjointness.proofs.both_even.Reads as both-even-reads
 use Rattle.memo.proofs.in_order.Reads as in-order-reads
 use Rattle.memo.proofs.recall.Reads as recall-reads
 use Rattle.memo.proofs.remember.Reads as remember-reads
@@ -34,24 +38,27 @@ use Rattle.views.proofs.cut.Reads as cut-reads
 use Rattle.views.proofs.first_variable.Reads as first-variable-reads
 use Rattle.views.proofs.opposed.Reads as opposed-reads
 use Rattle.views.proofs.view_of.Reads as view-of-reads
-use Rattle.disjointness.proofs.+booleans_disjoint+ids_disjoint+ranges_disjoint+sides_disjoint.{
+use Rattle.disjointness.proofs.+booleans_disjoint+ids_disjoint+nodes_disjoint+ranges_disjoint+sides_disjoint.{
   statement,
 }
-use Rattle.disjointness.proofs.+booleans_disjoint+ids_disjoint+ranges_disjoint+sides_disjoint.Tie.{
+use Rattle.disjointness.proofs.+booleans_disjoint+ids_disjoint+nodes_disjoint+ranges_disjoint+sides_disjoint.Tie.{
   close,
 }
 
 abbrev μ-booleans-disjoint : Measures 4 booleans-disjoint-kinds.ps ℕ
-μ-booleans-disjoint κs a = a .1 .1 .1 .1 .1 .1 .0 * 3 + 1
+μ-booleans-disjoint κs a = a .1 .1 .1 .1 .1 .1 .0 * 4 + 2
 
 abbrev μ-ids-disjoint : Measures 4 ids-disjoint-kinds.ps ℕ
-μ-ids-disjoint κs a = a .1 .1 .1 .1 .1 .1 .0 * 3
+μ-ids-disjoint κs a = a .1 .1 .1 .1 .1 .1 .0 * 4 + 1
+
+abbrev μ-nodes-disjoint : Measures 4 nodes-disjoint-kinds.ps ℕ
+μ-nodes-disjoint κs a = a .1 .1 .1 .1 .1 .1 .0 * 4
 
 abbrev μ-ranges-disjoint : Measures 4 ranges-disjoint-kinds.ps ℕ
-μ-ranges-disjoint κs a = a .1 .1 .1 .1 .1 .1 .0 * 3 + 1
+μ-ranges-disjoint κs a = a .1 .1 .1 .1 .1 .1 .0 * 4 + 2
 
 abbrev μ-sides-disjoint : Measures 4 sides-disjoint-kinds.ps ℕ
-μ-sides-disjoint κs a = a .1 .1 .1 .1 .1 .1 .1 .0 * 3 + 2
+μ-sides-disjoint κs a = a .1 .1 .1 .1 .1 .1 .1 .0 * 4 + 3
 
 abbrev booleans-disjoint-at : ℕ → In 4 booleans-disjoint-kinds.ps
 booleans-disjoint-at t =
@@ -76,6 +83,14 @@ ids-disjoint-at t =
 abbrev ids-disjoint-below : ℕ → In 4 ids-disjoint-kinds.ps
 ids-disjoint-below t =
     and 4 ids-disjoint-kinds.ps (falls 4 ids-disjoint-kinds.ps _<_ μ-ids-disjoint t) ids-disjoint.Pre
+
+abbrev nodes-disjoint-at : ℕ → In 4 nodes-disjoint-kinds.ps
+nodes-disjoint-at t =
+    and 4 nodes-disjoint-kinds.ps (is 4 nodes-disjoint-kinds.ps μ-nodes-disjoint t) nodes-disjoint.Pre
+
+abbrev nodes-disjoint-below : ℕ → In 4 nodes-disjoint-kinds.ps
+nodes-disjoint-below t =
+    and 4 nodes-disjoint-kinds.ps (falls 4 nodes-disjoint-kinds.ps _<_ μ-nodes-disjoint t) nodes-disjoint.Pre
 
 abbrev ranges-disjoint-at : ℕ → In 4 ranges-disjoint-kinds.ps
 ranges-disjoint-at t =
@@ -113,7 +128,10 @@ abbrev booleans-disjoint-claims : ℕ → booleans-disjoint-lts.Claims
 booleans-disjoint-claims t = (child-reads.Asked, child-reads.Learnt, ids-disjoint-below t, ids-disjoint.Post)
 
 abbrev ids-disjoint-claims : ℕ → ids-disjoint-lts.Claims
-ids-disjoint-claims t = (opposed-reads.Asked, opposed-reads.Learnt, agreeing-reads.Asked, agreeing-reads.Learnt, first-variable-reads.Asked, first-variable-reads.Learnt, view-of-reads.Asked, view-of-reads.Learnt, sides-disjoint-below t, sides-disjoint.Post, in-order-reads.Asked, in-order-reads.Learnt, recall-reads.Asked, recall-reads.Learnt, remember-reads.Asked, remember-reads.Learnt)
+ids-disjoint-claims t = (both-even-reads.Asked, both-even-reads.Learnt, opposed-reads.Asked, opposed-reads.Learnt, agreeing-reads.Asked, agreeing-reads.Learnt, nodes-disjoint-below t, nodes-disjoint.Post)
+
+abbrev nodes-disjoint-claims : ℕ → nodes-disjoint-lts.Claims
+nodes-disjoint-claims t = (first-variable-reads.Asked, first-variable-reads.Learnt, view-of-reads.Asked, view-of-reads.Learnt, sides-disjoint-below t, sides-disjoint.Post, in-order-reads.Asked, in-order-reads.Learnt, recall-reads.Asked, recall-reads.Learnt, remember-reads.Asked, remember-reads.Learnt)
 
 abbrev ranges-disjoint-claims : ℕ → ranges-disjoint-lts.Claims
 ranges-disjoint-claims t = (child-reads.Asked, child-reads.Learnt, cut-reads.Asked, cut-reads.Learnt, ids-disjoint-below t, ids-disjoint.Post)
@@ -156,71 +174,70 @@ booleans-disjoint-returns-2 t c = record { right = λ s. high-yes (c .before .be
 
 ids-disjoint-returns : (t : ℕ) → ids-disjoint-lts.Need-returns (ids-disjoint-claims t) (ids-disjoint-at t) ids-disjoint.Post
 ids-disjoint-returns t c =
-    let pre· = c .before .before .before .before .before .pre in
-    record { right = λ s. opening-yes (pre· .1) (c .before .opposed .ensures) (c .if1 .taken); listed = (pre· .1 .listed); stays = λ l. refl }
+    let even = (c .before .both-even .ensures) (c .if1 .taken) in
+    record { right = λ s. even-no (c .before .before .before .before .before .pre .1) (even .0) (even .1); listed = (c .before .before .before .before .before .pre .1 .listed); stays = λ l. refl }
 
 ids-disjoint-returns-2 : (t : ℕ) → ids-disjoint-lts.Need-returns-2 (ids-disjoint-claims t) (ids-disjoint-at t) ids-disjoint.Post
-ids-disjoint-returns-2 t c =
-    let pre· = c .before .before .before .before .before .before .before .pre in
-    record { right = λ s. opening-no (pre· .1) (c .before .before .before .opposed .ensures) (c .before .before .if1 .left) (c .before .agreeing .ensures) (c .if2 .taken); listed = (pre· .1 .listed); stays = λ l. refl }
+ids-disjoint-returns-2 t c = record { right = λ s. opening-yes (c .before .before .before .before .before .before .before .pre .1) (c .before .opposed .ensures) (c .if2 .taken); listed = (c .before .before .before .before .before .before .before .pre .1 .listed); stays = λ l. refl }
 
 ids-disjoint-returns-3 : (t : ℕ) → ids-disjoint-lts.Need-returns-3 (ids-disjoint-claims t) (ids-disjoint-at t) ids-disjoint.Post
-ids-disjoint-returns-3 t c = record { right = λ s. gave-up (c .if3 .taken) s; listed = (c .before .before .before .before .before .before .before .before .pre .1 .listed); stays = λ l. refl }
+ids-disjoint-returns-3 t c = record { right = λ s. opening-no (c .before .before .before .before .before .before .before .before .before .pre .1) (c .before .before .before .opposed .ensures) (c .before .before .if2 .left) (c .before .agreeing .ensures) (c .if3 .taken); listed = (c .before .before .before .before .before .before .before .before .before .pre .1 .listed); stays = λ l. refl }
 
-ids-disjoint-first-variable-requires : (t : ℕ) → ids-disjoint-lts.Need-first-variable-requires (ids-disjoint-claims t) (ids-disjoint-at t) ids-disjoint.Post
-ids-disjoint-first-variable-requires t c κs =
-    let pre· = c .before .before .before .before .before .before .before .before .pre in
-    let opposed· = c .before .before .before .before .opposed in
-    (left-node (pre· .1) (opposed· .ensures) (c .before .before .before .if1 .left) (c .before .before .agreeing .ensures) (c .before .if2 .left), left-inside (pre· .1), right-node (pre· .1) (opposed· .ensures) (c .before .before .before .if1 .left) (c .before .before .agreeing .ensures) (c .before .if2 .left), right-inside (pre· .1))
+ids-disjoint-nodes-disjoint-requires : (t : ℕ) → ids-disjoint-lts.Need-nodes-disjoint-requires (ids-disjoint-claims t) (ids-disjoint-at t) ids-disjoint.Post
+ids-disjoint-nodes-disjoint-requires t c κs = (omega (arith, (c .before .before .before .before .before .before .before .before .before .before .pre .0)), ((c .before .before .before .before .before .before .before .before .before .before .pre .1), sym (c .before .before .before .before .opposed .ensures) ∙ (c .before .before .before .if2 .left), sym (c .before .before .agreeing .ensures) ∙ (c .before .if3 .left)))
 
-ids-disjoint-view-of-requires : (t : ℕ) → ids-disjoint-lts.Need-view-of-requires (ids-disjoint-claims t) (ids-disjoint-at t) ids-disjoint.Post
-ids-disjoint-view-of-requires t c κs =
-    let pre· = c .before .before .before .before .before .before .before .before .before .pre in
-    (left-node (pre· .1) (c .before .before .before .before .before .opposed .ensures) (c .before .before .before .before .if1 .left) (c .before .before .before .agreeing .ensures) (c .before .before .if2 .left), left-inside (pre· .1))
+nodes-disjoint-returns : (t : ℕ) → nodes-disjoint-lts.Need-returns (nodes-disjoint-claims t) (nodes-disjoint-at t) nodes-disjoint.Post
+nodes-disjoint-returns t c = record { right = λ s. gave-up (c .if1 .taken) s; listed = (c .before .before .before .before .pre .1 .0 .listed); stays = λ l. refl }
 
-ids-disjoint-view-of-requires-2 : (t : ℕ) → ids-disjoint-lts.Need-view-of-requires-2 (ids-disjoint-claims t) (ids-disjoint-at t) ids-disjoint.Post
-ids-disjoint-view-of-requires-2 t c κs =
-    let pre· = c .before .before .before .before .before .before .before .before .before .before .pre in
-    (right-node (pre· .1) (c .before .before .before .before .before .before .opposed .ensures) (c .before .before .before .before .before .if1 .left) (c .before .before .before .before .agreeing .ensures) (c .before .before .before .if2 .left), right-inside (pre· .1))
+nodes-disjoint-first-variable-requires : (t : ℕ) → nodes-disjoint-lts.Need-first-variable-requires (nodes-disjoint-claims t) (nodes-disjoint-at t) nodes-disjoint.Post
+nodes-disjoint-first-variable-requires t c κs =
+    let pre· = c .before .before .before .before .pre in
+    (left-node (pre· .1 .0) refl (c .before .before .before .before .pre .1 .1) refl (c .before .before .before .before .pre .1 .2), left-inside (pre· .1 .0), right-node (pre· .1 .0) refl (c .before .before .before .before .pre .1 .1) refl (c .before .before .before .before .pre .1 .2), right-inside (pre· .1 .0))
 
-ids-disjoint-sub-sides-disjoint : (t : ℕ) → ids-disjoint-lts.Need-sub-sides-disjoint (ids-disjoint-claims t) (ids-disjoint-at t) ids-disjoint.Post
-ids-disjoint-sub-sides-disjoint t c = omega (arith, some-ahead (c .before .before .before .before .before .before .before .before .before .before .before .before .before .pre .1))
+nodes-disjoint-view-of-requires : (t : ℕ) → nodes-disjoint-lts.Need-view-of-requires (nodes-disjoint-claims t) (nodes-disjoint-at t) nodes-disjoint.Post
+nodes-disjoint-view-of-requires t c κs =
+    let pre· = c .before .before .before .before .before .pre in
+    (left-node (pre· .1 .0) refl (c .before .before .before .before .before .pre .1 .1) refl (c .before .before .before .before .before .pre .1 .2), left-inside (pre· .1 .0))
 
-ids-disjoint-sub-sides-disjoint-2 : (t : ℕ) → ids-disjoint-lts.Need-sub-sides-disjoint-2 (ids-disjoint-claims t) (ids-disjoint-at t) ids-disjoint.Post
-ids-disjoint-sub-sides-disjoint-2 t c = omega (arith, (c .before .before .before .before .before .if3 .left))
+nodes-disjoint-view-of-requires-2 : (t : ℕ) → nodes-disjoint-lts.Need-view-of-requires-2 (nodes-disjoint-claims t) (nodes-disjoint-at t) nodes-disjoint.Post
+nodes-disjoint-view-of-requires-2 t c κs =
+    let pre· = c .before .before .before .before .before .before .pre in
+    (right-node (pre· .1 .0) refl (c .before .before .before .before .before .before .pre .1 .1) refl (c .before .before .before .before .before .before .pre .1 .2), right-inside (pre· .1 .0))
 
-ids-disjoint-sides-disjoint-requires : (t : ℕ) → ids-disjoint-lts.Need-sides-disjoint-requires (ids-disjoint-claims t) (ids-disjoint-at t) ids-disjoint.Post
-ids-disjoint-sides-disjoint-requires t c κs = (omega (arith, (c .before .before .before .before .before .before .before .before .before .before .before .before .before .pre .0), some-ahead (c .before .before .before .before .before .before .before .before .before .before .before .before .before .pre .1)), sides-asked (c .before .before .before .before .before .before .before .before .before .before .before .before .before .pre .1) (c .before .before .before .before .before .before .before .before .before .opposed .ensures) (c .before .before .before .before .before .before .before .before .if1 .left) (c .before .before .before .before .before .before .before .agreeing .ensures) (c .before .before .before .before .before .before .if2 .left) (c .before .before .before .before .first-variable .ensures) (c .before .before .before .view-of .ensures) (c .before .before .view-of2 .ensures))
+nodes-disjoint-sub-sides-disjoint : (t : ℕ) → nodes-disjoint-lts.Need-sub-sides-disjoint (nodes-disjoint-claims t) (nodes-disjoint-at t) nodes-disjoint.Post
+nodes-disjoint-sub-sides-disjoint t c = omega (arith, some-ahead (c .before .before .before .before .before .before .before .before .before .pre .1 .0))
 
-ids-disjoint-returns-4 : (t : ℕ) → ids-disjoint-lts.Need-returns-4 (ids-disjoint-claims t) (ids-disjoint-at t) ids-disjoint.Post
-ids-disjoint-returns-4 t c = record { right = λ s. sides-answer (c .before .before .before .before .before .before .before .before .before .before .before .before .before .before .before .before .pre .1) (c .before .before .before .before .before .before .before .before .before .before .before .before .opposed .ensures) (c .before .before .before .before .before .before .before .before .before .before .before .if1 .left) (c .before .before .before .before .before .before .before .before .before .before .agreeing .ensures) (c .before .before .before .before .before .before .before .before .before .if2 .left) (c .before .before .before .before .before .before .before .first-variable .ensures) (c .before .before .before .before .before .before .view-of .ensures) (c .before .before .before .before .before .view-of2 .ensures) ((c .before .before .sides-disjoint .ensures .right) s); listed = (c .before .before .sides-disjoint .ensures .listed); stays = λ l. absurd (omega (arith, l, (c .before .before .before .before .if4 .taken), (c .before .before .sides-disjoint .kept .1 .1 .1 .0))) }
+nodes-disjoint-sub-sides-disjoint-2 : (t : ℕ) → nodes-disjoint-lts.Need-sub-sides-disjoint-2 (nodes-disjoint-claims t) (nodes-disjoint-at t) nodes-disjoint.Post
+nodes-disjoint-sub-sides-disjoint-2 t c = omega (arith, (c .before .before .before .before .before .if1 .left))
 
-ids-disjoint-recall-requires : (t : ℕ) → ids-disjoint-lts.Need-recall-requires (ids-disjoint-claims t) (ids-disjoint-at t) ids-disjoint.Post
-ids-disjoint-recall-requires t c κs = let i = ids-small (c .before .before .before .before .before .before .before .before .before .before .before .before .before .before .before .before .pre .1) (c .before .before .before .in-order .ensures) in (omega (arith, (c .before .before .before .before .if4 .left)), (c .before .before .before .before .before .before .before .before .before .before .before .before .before .before .before .before .pre .1 .listed .most), (c .before .before .before .before .before .before .before .before .before .before .before .before .before .before .before .before .pre .1 .listed .pairs .framed), i .0, i .1)
+nodes-disjoint-sides-disjoint-requires : (t : ℕ) → nodes-disjoint-lts.Need-sides-disjoint-requires (nodes-disjoint-claims t) (nodes-disjoint-at t) nodes-disjoint.Post
+nodes-disjoint-sides-disjoint-requires t c κs = (omega (arith, (c .before .before .before .before .before .before .before .before .before .pre .0), some-ahead (c .before .before .before .before .before .before .before .before .before .pre .1 .0)), sides-asked (c .before .before .before .before .before .before .before .before .before .pre .1 .0) refl (c .before .before .before .before .before .before .before .before .before .pre .1 .1) refl (c .before .before .before .before .before .before .before .before .before .pre .1 .2) (c .before .before .before .before .first-variable .ensures) (c .before .before .before .view-of .ensures) (c .before .before .view-of2 .ensures))
 
-ids-disjoint-returns-5 : (t : ℕ) → ids-disjoint-lts.Need-returns-5 (ids-disjoint-claims t) (ids-disjoint-at t) ids-disjoint.Post
-ids-disjoint-returns-5 t c =
-    let pre· = c .before .before .before .before .before .before .before .before .before .before .before .before .before .before .before .before .before .before .pre in
-    let opposed· = c .before .before .before .before .before .before .before .before .before .before .before .before .before .before .opposed in
-    let if1· = c .before .before .before .before .before .before .before .before .before .before .before .before .before .if1 in
-    let agreeing· = c .before .before .before .before .before .before .before .before .before .before .before .before .agreeing in
-    let if2· = c .before .before .before .before .before .before .before .before .before .before .before .if2 in
-    record { right = λ s. recalled-yes (pre· .1) (c .before .before .before .before .before .in-order .ensures) (left-node (pre· .1) (opposed· .ensures) (if1· .left) (agreeing· .ensures) (if2· .left)) (right-node (pre· .1) (opposed· .ensures) (if1· .left) (agreeing· .ensures) (if2· .left)) ((c .before .recall .ensures) (c .if5 .taken)); listed = (pre· .1 .listed); stays = λ l. refl }
+nodes-disjoint-returns-2 : (t : ℕ) → nodes-disjoint-lts.Need-returns-2 (nodes-disjoint-claims t) (nodes-disjoint-at t) nodes-disjoint.Post
+nodes-disjoint-returns-2 t c = record { right = λ s. sides-answer (c .before .before .before .before .before .before .before .before .before .before .before .before .pre .1 .0) refl (c .before .before .before .before .before .before .before .before .before .before .before .before .pre .1 .1) refl (c .before .before .before .before .before .before .before .before .before .before .before .before .pre .1 .2) (c .before .before .before .before .before .before .before .first-variable .ensures) (c .before .before .before .before .before .before .view-of .ensures) (c .before .before .before .before .before .view-of2 .ensures) ((c .before .before .sides-disjoint .ensures .right) s); listed = (c .before .before .sides-disjoint .ensures .listed); stays = λ l. absurd (omega (arith, l, (c .before .before .before .before .if2 .taken), (c .before .before .sides-disjoint .kept .1 .1 .1 .0))) }
 
-ids-disjoint-sub-sides-disjoint-3 : (t : ℕ) → ids-disjoint-lts.Need-sub-sides-disjoint-3 (ids-disjoint-claims t) (ids-disjoint-at t) ids-disjoint.Post
-ids-disjoint-sub-sides-disjoint-3 t c = omega (arith, some-ahead (c .before .before .before .before .before .before .before .before .before .before .before .before .before .before .before .before .before .before .before .pre .1))
+nodes-disjoint-recall-requires : (t : ℕ) → nodes-disjoint-lts.Need-recall-requires (nodes-disjoint-claims t) (nodes-disjoint-at t) nodes-disjoint.Post
+nodes-disjoint-recall-requires t c κs = let i = ids-small (c .before .before .before .before .before .before .before .before .before .before .before .before .pre .1 .0) (c .before .before .before .in-order .ensures) in (omega (arith, (c .before .before .before .before .if2 .left)), (c .before .before .before .before .before .before .before .before .before .before .before .before .pre .1 .0 .listed .most), (c .before .before .before .before .before .before .before .before .before .before .before .before .pre .1 .0 .listed .pairs .framed), i .0, i .1)
 
-ids-disjoint-sides-disjoint-requires-2 : (t : ℕ) → ids-disjoint-lts.Need-sides-disjoint-requires-2 (ids-disjoint-claims t) (ids-disjoint-at t) ids-disjoint.Post
-ids-disjoint-sides-disjoint-requires-2 t c κs = (omega (arith, (c .before .before .before .before .before .before .before .before .before .before .before .before .before .before .before .before .before .before .before .pre .0), some-ahead (c .before .before .before .before .before .before .before .before .before .before .before .before .before .before .before .before .before .before .before .pre .1)), sides-asked (c .before .before .before .before .before .before .before .before .before .before .before .before .before .before .before .before .before .before .before .pre .1) (c .before .before .before .before .before .before .before .before .before .before .before .before .before .before .before .opposed .ensures) (c .before .before .before .before .before .before .before .before .before .before .before .before .before .before .if1 .left) (c .before .before .before .before .before .before .before .before .before .before .before .before .before .agreeing .ensures) (c .before .before .before .before .before .before .before .before .before .before .before .before .if2 .left) (c .before .before .before .before .before .before .before .before .before .before .first-variable .ensures) (c .before .before .before .before .before .before .before .before .before .view-of .ensures) (c .before .before .before .before .before .before .before .before .view-of2 .ensures))
+nodes-disjoint-returns-3 : (t : ℕ) → nodes-disjoint-lts.Need-returns-3 (nodes-disjoint-claims t) (nodes-disjoint-at t) nodes-disjoint.Post
+nodes-disjoint-returns-3 t c =
+    let pre· = c .before .before .before .before .before .before .before .before .before .before .before .before .before .before .pre in
+    record { right = λ s. recalled-yes (pre· .1 .0) (c .before .before .before .before .before .in-order .ensures) (left-node (pre· .1 .0) refl (c .before .before .before .before .before .before .before .before .before .before .before .before .before .before .pre .1 .1) refl (c .before .before .before .before .before .before .before .before .before .before .before .before .before .before .pre .1 .2)) (right-node (pre· .1 .0) refl (c .before .before .before .before .before .before .before .before .before .before .before .before .before .before .pre .1 .1) refl (c .before .before .before .before .before .before .before .before .before .before .before .before .before .before .pre .1 .2)) ((c .before .recall .ensures) (c .if3 .taken)); listed = (pre· .1 .0 .listed); stays = λ l. refl }
 
-ids-disjoint-remember-requires : (t : ℕ) → ids-disjoint-lts.Need-remember-requires (ids-disjoint-claims t) (ids-disjoint-at t) ids-disjoint.Post
-ids-disjoint-remember-requires t c κs = let i = ids-small (c .before .before .before .before .before .before .before .before .before .before .before .before .before .before .before .before .before .before .before .before .before .before .before .before .pre .1) (c .before .before .before .before .before .before .before .before .before .before .before .in-order .ensures) in (omega (arith, (c .before .before .before .before .before .before .before .before .before .before .before .before .if4 .left), (c .before .before .before .before .sides-disjoint2 .kept .1 .1 .1 .0)), (c .before .before .before .before .sides-disjoint2 .ensures .listed .most), (c .before .before .before .before .sides-disjoint2 .ensures .listed .pairs .framed), i .0, i .1, omega arith, variable-known (c .before .before .before .before .before .before .before .before .before .before .before .before .before .before .before .before .before .before .before .before .before .before .before .before .pre .1) (c .before .before .before .before .before .before .before .before .before .before .before .before .before .before .before .before .before .before .before .before .opposed .ensures) (c .before .before .before .before .before .before .before .before .before .before .before .before .before .before .before .before .before .before .before .if1 .left) (c .before .before .before .before .before .before .before .before .before .before .before .before .before .before .before .before .before .before .agreeing .ensures) (c .before .before .before .before .before .before .before .before .before .before .before .before .before .before .before .before .before .if2 .left) (c .before .before .before .before .before .before .before .before .before .before .before .before .before .before .before .first-variable .ensures) (c .before .before .before .before .before .before .before .before .before .before .before .before .before .before .view-of .ensures) (c .before .before .before .before .before .before .before .before .before .before .before .before .before .view-of2 .ensures))
+nodes-disjoint-sub-sides-disjoint-3 : (t : ℕ) → nodes-disjoint-lts.Need-sub-sides-disjoint-3 (nodes-disjoint-claims t) (nodes-disjoint-at t) nodes-disjoint.Post
+nodes-disjoint-sub-sides-disjoint-3 t c = omega (arith, some-ahead (c .before .before .before .before .before .before .before .before .before .before .before .before .before .before .before .pre .1 .0))
 
-ids-disjoint-returns-6 : (t : ℕ) → ids-disjoint-lts.Need-returns-6 (ids-disjoint-claims t) (ids-disjoint-at t) ids-disjoint.Post
-ids-disjoint-returns-6 t c = record { right = λ s. sides-answer (c .before .before .before .before .before .before .before .before .before .before .before .before .before .before .before .before .before .before .before .before .before .before .before .before .before .before .before .pre .1) (c .before .before .before .before .before .before .before .before .before .before .before .before .before .before .before .before .before .before .before .before .before .before .before .opposed .ensures) (c .before .before .before .before .before .before .before .before .before .before .before .before .before .before .before .before .before .before .before .before .before .before .if1 .left) (c .before .before .before .before .before .before .before .before .before .before .before .before .before .before .before .before .before .before .before .before .before .agreeing .ensures) (c .before .before .before .before .before .before .before .before .before .before .before .before .before .before .before .before .before .before .before .before .if2 .left) (c .before .before .before .before .before .before .before .before .before .before .before .before .before .before .before .before .before .before .first-variable .ensures) (c .before .before .before .before .before .before .before .before .before .before .before .before .before .before .before .before .before .view-of .ensures) (c .before .before .before .before .before .before .before .before .before .before .before .before .before .before .before .before .view-of2 .ensures) ((c .before .before .before .before .before .before .before .sides-disjoint2 .ensures .right) s); listed = noted-listed (c .before .before .before .before .before .before .before .before .before .before .before .before .before .before .before .before .before .before .before .before .before .before .before .before .before .before .before .pre .1) (c .before .before .before .before .before .before .before .before .before .before .before .before .before .before .in-order .ensures) (c .before .before .before .before .before .before .before .sides-disjoint2 .ensures .listed) (c .before .before .before .before .if6 .taken) (sides-answer (c .before .before .before .before .before .before .before .before .before .before .before .before .before .before .before .before .before .before .before .before .before .before .before .before .before .before .before .pre .1) (c .before .before .before .before .before .before .before .before .before .before .before .before .before .before .before .before .before .before .before .before .before .before .before .opposed .ensures) (c .before .before .before .before .before .before .before .before .before .before .before .before .before .before .before .before .before .before .before .before .before .before .if1 .left) (c .before .before .before .before .before .before .before .before .before .before .before .before .before .before .before .before .before .before .before .before .before .agreeing .ensures) (c .before .before .before .before .before .before .before .before .before .before .before .before .before .before .before .before .before .before .before .before .if2 .left) (c .before .before .before .before .before .before .before .before .before .before .before .before .before .before .before .before .before .before .first-variable .ensures) (c .before .before .before .before .before .before .before .before .before .before .before .before .before .before .before .before .before .view-of .ensures) (c .before .before .before .before .before .before .before .before .before .before .before .before .before .before .before .before .view-of2 .ensures) ((c .before .before .before .before .before .before .before .sides-disjoint2 .ensures .right) (inl (c .before .before .before .before .if6 .taken)))) (c .before .before .remember .ensures); stays = λ l. (c .before .before .before .before .before .before .before .sides-disjoint2 .ensures .stays) (omega (arith, l, (c .before .before .remember .ensures .long))) }
+nodes-disjoint-sides-disjoint-requires-2 : (t : ℕ) → nodes-disjoint-lts.Need-sides-disjoint-requires-2 (nodes-disjoint-claims t) (nodes-disjoint-at t) nodes-disjoint.Post
+nodes-disjoint-sides-disjoint-requires-2 t c κs = (omega (arith, (c .before .before .before .before .before .before .before .before .before .before .before .before .before .before .before .pre .0), some-ahead (c .before .before .before .before .before .before .before .before .before .before .before .before .before .before .before .pre .1 .0)), sides-asked (c .before .before .before .before .before .before .before .before .before .before .before .before .before .before .before .pre .1 .0) refl (c .before .before .before .before .before .before .before .before .before .before .before .before .before .before .before .pre .1 .1) refl (c .before .before .before .before .before .before .before .before .before .before .before .before .before .before .before .pre .1 .2) (c .before .before .before .before .before .before .before .before .before .before .first-variable .ensures) (c .before .before .before .before .before .before .before .before .before .view-of .ensures) (c .before .before .before .before .before .before .before .before .view-of2 .ensures))
 
-ids-disjoint-returns-7 : (t : ℕ) → ids-disjoint-lts.Need-returns-7 (ids-disjoint-claims t) (ids-disjoint-at t) ids-disjoint.Post
-ids-disjoint-returns-7 t c = record { right = λ s. sides-answer (c .before .before .before .before .before .before .before .before .before .before .before .before .before .before .before .before .before .before .before .before .before .before .before .pre .1) (c .before .before .before .before .before .before .before .before .before .before .before .before .before .before .before .before .before .before .before .opposed .ensures) (c .before .before .before .before .before .before .before .before .before .before .before .before .before .before .before .before .before .before .if1 .left) (c .before .before .before .before .before .before .before .before .before .before .before .before .before .before .before .before .before .agreeing .ensures) (c .before .before .before .before .before .before .before .before .before .before .before .before .before .before .before .before .if2 .left) (c .before .before .before .before .before .before .before .before .before .before .before .before .before .before .first-variable .ensures) (c .before .before .before .before .before .before .before .before .before .before .before .before .before .view-of .ensures) (c .before .before .before .before .before .before .before .before .before .before .before .before .view-of2 .ensures) ((c .before .before .before .sides-disjoint2 .ensures .right) s); listed = (c .before .before .before .sides-disjoint2 .ensures .listed); stays = (c .before .before .before .sides-disjoint2 .ensures .stays) }
+nodes-disjoint-remember-requires : (t : ℕ) → nodes-disjoint-lts.Need-remember-requires (nodes-disjoint-claims t) (nodes-disjoint-at t) nodes-disjoint.Post
+nodes-disjoint-remember-requires t c κs = let i = ids-small (c .before .before .before .before .before .before .before .before .before .before .before .before .before .before .before .before .before .before .before .before .pre .1 .0) (c .before .before .before .before .before .before .before .before .before .before .before .in-order .ensures) in (omega (arith, (c .before .before .before .before .before .before .before .before .before .before .before .before .if2 .left), (c .before .before .before .before .sides-disjoint2 .kept .1 .1 .1 .0)), (c .before .before .before .before .sides-disjoint2 .ensures .listed .most), (c .before .before .before .before .sides-disjoint2 .ensures .listed .pairs .framed), i .0, i .1, omega arith, variable-known (c .before .before .before .before .before .before .before .before .before .before .before .before .before .before .before .before .before .before .before .before .pre .1 .0) refl (c .before .before .before .before .before .before .before .before .before .before .before .before .before .before .before .before .before .before .before .before .pre .1 .1) refl (c .before .before .before .before .before .before .before .before .before .before .before .before .before .before .before .before .before .before .before .before .pre .1 .2) (c .before .before .before .before .before .before .before .before .before .before .before .before .before .before .before .first-variable .ensures) (c .before .before .before .before .before .before .before .before .before .before .before .before .before .before .view-of .ensures) (c .before .before .before .before .before .before .before .before .before .before .before .before .before .view-of2 .ensures))
+
+nodes-disjoint-returns-4 : (t : ℕ) → nodes-disjoint-lts.Need-returns-4 (nodes-disjoint-claims t) (nodes-disjoint-at t) nodes-disjoint.Post
+nodes-disjoint-returns-4 t c = record { right = λ s. sides-answer (c .before .before .before .before .before .before .before .before .before .before .before .before .before .before .before .before .before .before .before .before .before .before .before .pre .1 .0) refl (c .before .before .before .before .before .before .before .before .before .before .before .before .before .before .before .before .before .before .before .before .before .before .before .pre .1 .1) refl (c .before .before .before .before .before .before .before .before .before .before .before .before .before .before .before .before .before .before .before .before .before .before .before .pre .1 .2) (c .before .before .before .before .before .before .before .before .before .before .before .before .before .before .before .before .before .before .first-variable .ensures) (c .before .before .before .before .before .before .before .before .before .before .before .before .before .before .before .before .before .view-of .ensures) (c .before .before .before .before .before .before .before .before .before .before .before .before .before .before .before .before .view-of2 .ensures) ((c .before .before .before .before .before .before .before .sides-disjoint2 .ensures .right) s); listed = noted-listed (c .before .before .before .before .before .before .before .before .before .before .before .before .before .before .before .before .before .before .before .before .before .before .before .pre .1 .0) (c .before .before .before .before .before .before .before .before .before .before .before .before .before .before .in-order .ensures) (c .before .before .before .before .before .before .before .sides-disjoint2 .ensures .listed) (c .before .before .before .before .if4 .taken) (sides-answer (c .before .before .before .before .before .before .before .before .before .before .before .before .before .before .before .before .before .before .before .before .before .before .before .pre .1 .0) refl (c .before .before .before .before .before .before .before .before .before .before .before .before .before .before .before .before .before .before .before .before .before .before .before .pre .1 .1) refl (c .before .before .before .before .before .before .before .before .before .before .before .before .before .before .before .before .before .before .before .before .before .before .before .pre .1 .2) (c .before .before .before .before .before .before .before .before .before .before .before .before .before .before .before .before .before .before .first-variable .ensures) (c .before .before .before .before .before .before .before .before .before .before .before .before .before .before .before .before .before .view-of .ensures) (c .before .before .before .before .before .before .before .before .before .before .before .before .before .before .before .before .view-of2 .ensures) ((c .before .before .before .before .before .before .before .sides-disjoint2 .ensures .right) (inl (c .before .before .before .before .if4 .taken)))) (c .before .before .remember .ensures); stays = λ l. (c .before .before .before .before .before .before .before .sides-disjoint2 .ensures .stays) (omega (arith, l, (c .before .before .remember .ensures .long))) }
+
+nodes-disjoint-returns-5 : (t : ℕ) → nodes-disjoint-lts.Need-returns-5 (nodes-disjoint-claims t) (nodes-disjoint-at t) nodes-disjoint.Post
+nodes-disjoint-returns-5 t c = record { right = λ s. sides-answer (c .before .before .before .before .before .before .before .before .before .before .before .before .before .before .before .before .before .before .before .pre .1 .0) refl (c .before .before .before .before .before .before .before .before .before .before .before .before .before .before .before .before .before .before .before .pre .1 .1) refl (c .before .before .before .before .before .before .before .before .before .before .before .before .before .before .before .before .before .before .before .pre .1 .2) (c .before .before .before .before .before .before .before .before .before .before .before .before .before .before .first-variable .ensures) (c .before .before .before .before .before .before .before .before .before .before .before .before .before .view-of .ensures) (c .before .before .before .before .before .before .before .before .before .before .before .before .view-of2 .ensures) ((c .before .before .before .sides-disjoint2 .ensures .right) s); listed = (c .before .before .before .sides-disjoint2 .ensures .listed); stays = (c .before .before .before .sides-disjoint2 .ensures .stays) }
 
 abbrev ranges-disjoint-Inv-loop : ranges-disjoint-lts.InvT-loop
 ranges-disjoint-Inv-loop nodes children cuts noted₀ a b ahead rest answer₀ more₀ i j₀ x k noted answer more j = (answer ≡ true) × Beside (store nodes children cuts) noted₀ noted rest more (Walked ahead (whole (store nodes children cuts)) children cuts a b i j)
@@ -407,11 +424,12 @@ sides-disjoint-booleans-disjoint-requires t c κs = (omega (arith, (c .before .b
 sides-disjoint-returns-2 : (t : ℕ) → sides-disjoint-lts.Need-returns-2 (sides-disjoint-claims t) (sides-disjoint-at t) sides-disjoint.Post
 sides-disjoint-returns-2 t c = record { right = λ s. bool-answer (c .before .before .before .before .before .before .before .before .pre .1) (c .before .before .before .before .if1 .left) ((c .before .before .booleans-disjoint .ensures .right) s); listed = (c .before .before .booleans-disjoint .ensures .listed); stays = (c .before .before .booleans-disjoint .ensures .stays) }
 
-pub +booleans-disjoint+ids-disjoint+ranges-disjoint+sides-disjoint-spec : {M : Type 1} → statement M
-+booleans-disjoint+ids-disjoint+ranges-disjoint+sides-disjoint-spec =
+pub +booleans-disjoint+ids-disjoint+nodes-disjoint+ranges-disjoint+sides-disjoint-spec : {M : Type 1} → statement M
++booleans-disjoint+ids-disjoint+nodes-disjoint+ranges-disjoint+sides-disjoint-spec =
     close
     μ-booleans-disjoint
     μ-ids-disjoint
+    μ-nodes-disjoint
     μ-ranges-disjoint
     μ-sides-disjoint
     (λ t. booleans-disjoint-lts.spec
@@ -438,26 +456,35 @@ pub +booleans-disjoint+ids-disjoint+ranges-disjoint+sides-disjoint-spec : {M : T
     (ids-disjoint-returns t)
     (λ c κs. search needs)
     (ids-disjoint-returns-2 t)
-    (ids-disjoint-returns-3 t)
-    (ids-disjoint-first-variable-requires t)
-    (ids-disjoint-view-of-requires t)
-    (ids-disjoint-view-of-requires-2 t)
-    (ids-disjoint-sub-sides-disjoint t)
-    (ids-disjoint-sub-sides-disjoint-2 t)
-    (ids-disjoint-sides-disjoint-requires t)
-    (λ c. search needs)
-    (ids-disjoint-returns-4 t)
     (λ c κs. search needs)
-    (ids-disjoint-recall-requires t)
+    (ids-disjoint-returns-3 t)
+    (ids-disjoint-nodes-disjoint-requires t)
     (λ c. search needs)
-    (ids-disjoint-returns-5 t)
-    (ids-disjoint-sub-sides-disjoint-3 t)
-    (ids-disjoint-sides-disjoint-requires-2 t)
-    (ids-disjoint-remember-requires t)
+    (λ c. search needs))
+    (λ t. nodes-disjoint-lts.spec
+    (nodes-disjoint-claims t)
+    (nodes-disjoint-at t)
+    nodes-disjoint.Post
+    (nodes-disjoint-returns t)
+    (nodes-disjoint-first-variable-requires t)
+    (nodes-disjoint-view-of-requires t)
+    (nodes-disjoint-view-of-requires-2 t)
+    (nodes-disjoint-sub-sides-disjoint t)
+    (nodes-disjoint-sub-sides-disjoint-2 t)
+    (nodes-disjoint-sides-disjoint-requires t)
     (λ c. search needs)
-    (ids-disjoint-returns-6 t)
+    (nodes-disjoint-returns-2 t)
+    (λ c κs. search needs)
+    (nodes-disjoint-recall-requires t)
     (λ c. search needs)
-    (ids-disjoint-returns-7 t))
+    (nodes-disjoint-returns-3 t)
+    (nodes-disjoint-sub-sides-disjoint-3 t)
+    (nodes-disjoint-sides-disjoint-requires-2 t)
+    (nodes-disjoint-remember-requires t)
+    (λ c. search needs)
+    (nodes-disjoint-returns-4 t)
+    (λ c. search needs)
+    (nodes-disjoint-returns-5 t))
     (λ t. ranges-disjoint-lts.spec
     (ranges-disjoint-claims t)
     (ranges-disjoint-at t)
