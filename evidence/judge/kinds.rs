@@ -12,6 +12,9 @@ use crate::operation::{Bounds, Operation, Operation::*, SLICES};
 use crate::random::Random;
 use crate::words::{cut_for, Record, Room, MOST_EDGES, MOST_NODES};
 
+/// The Rust's disjointness keeps no pair, and its work may double with each boolean: it is asked to the end of no taller tower.
+const SHORT_TOWER: usize = 15;
+
 /// Range and boolean variables, some at the ends of their numbers.
 fn some_variables(random: &mut Random, first: u32, count: usize) -> Vec<u32> {
     let near = if random.chance(80) {
@@ -95,8 +98,35 @@ impl Composer<'_> {
             edges: 800,
         });
         self.tower();
+        if booleans <= SHORT_TOWER {
+            self.excluded();
+        }
         for _ in 0..self.times(2, 8) {
             self.step();
+        }
+    }
+
+    /// Two that exclude each other by the last boolean alone: whether they do is walked to the end, through more pairs than are looked at
+    /// without the memo that disjointness has. And two that meet in one reading, which such a walk comes to last.
+    fn excluded(&mut self) {
+        let variable = *self.matter.booleans.last().unwrap();
+        let tower = self.ids.clone();
+        for _ in 0..2 {
+            let last = self.make(Boolean { variable });
+            let (this, that) = (self.one_of_last(&tower), self.one_of_last(&tower));
+            let x = self.make(And { x: this, y: last });
+            let y = self.make(And { x: that, y: last ^ 1 });
+            self.call(Disjoint { x, y });
+            let mut corner = last;
+            for variable in self.matter.booleans.clone() {
+                let no = self.make(Boolean { variable }) ^ 1;
+                if no != last ^ 1 {
+                    corner = self.make(And { x: corner, y: no });
+                }
+            }
+            let meet = self.make(And { x, y: corner });
+            let late = self.make(Or { x: y, y: meet });
+            self.call(Disjoint { x, y: late });
         }
     }
 
