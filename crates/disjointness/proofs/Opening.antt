@@ -19,7 +19,7 @@ use Rattle.diagram.proofs.Piecewise.{each-imp}
 use Rattle.algebra.specs.Disjointness.{disjoint-step, disjoint}
 use Rattle.algebra.proofs.Disjoint.{Answer, never, meet, answer-yes, answered}
 use Rattle.memo.specs.Recalling.{ids, Ordered, as-given, turned, Hit, Noted}
-use Rattle.memo.proofs.Recalled.{hit-was-noted, noted-true}
+use Rattle.memo.proofs.Recalled.{hit-was-noted, in-either-order, noted-true}
 use Rattle.views.specs.Seeing.{usedIn, Readable, seen, Sees, Views}
 use Rattle.views.specs.declared.View.{View}
 use Rattle.views.proofs.Sights.{seen-range, seen-bool, views-rising, views-kids, views-inside, bool-count-le-two, known-held, known-used, record-inside, first-variable-is, sees-views, call-left}
@@ -64,11 +64,6 @@ gave-up e (inr h) = absurd (omega arith)
 pub sure-no : {b : Bool} {k : ℕ} → (_≡_ {A = Bool} false true) ⊎ (1 ≤ k) → (b ≡ true) ⊎ (1 ≤ k)
 sure-no (inl h) = absurd (false≢true h)
 sure-no (inr h) = inr h
-
--- what holds of two ids holds of them in order
-in-order : (P : ℕ → Type 0) {x y f g : ℕ} → Ordered x y f g → P x → P y → P f × P g
-in-order P as-given p q = (p, q)
-in-order P turned p q = (q, p)
 
 -- who excludes whom matters not
 excluding-turned : (t : Table) (x y z : ℕ) → Excluding t x y z → Excluding t y x z
@@ -132,11 +127,11 @@ module _ {st : Store} {noted : List ℕ} {n x y : ℕ} (q : AskedPair st noted n
   -- the pair in order has ids that an entry has room for
   module _ {f g : ℕ} (w : Ordered x y f g) where
     pub ids-small : (f < ids) × (g < ids)
-    ids-small = in-order (λ z. z < ids) w (omega (arith, r .small, q .left .known)) (omega (arith, r .small, q .right .known))
+    ids-small = in-either-order (λ z. z < ids) w (omega (arith, r .small, q .left .known)) (omega (arith, r .small, q .right .known))
 
     -- a pair that was noted
     pub recalled-yes : {z : ℕ} → 2 ≤ x → 2 ≤ y → Hit noted f g z → true ≡ disjoint n t x y
-    recalled-yes {z} hx hy h = excluding-yes z answer (excluding-given t x y f g z w (hit-was-noted (q .listed .pairs) (omega (arith, in-order (λ z. 2 ≤ z) w hx hy .0)) h))
+    recalled-yes {z} hx hy h = excluding-yes z answer (excluding-given t x y f g z w (hit-was-noted (q .listed .pairs) (omega (arith, in-either-order (λ z. 2 ≤ z) w hx hy .0)) h))
 
     -- a pair that is noted now
     pub noted-listed : {noted′ noted″ : List ℕ} {z : ℕ} {yes : Bool} → Listed st noted′ → yes ≡ true → yes ≡ disjoint n t x y → Noted noted′ f g z noted″ → Listed st noted″

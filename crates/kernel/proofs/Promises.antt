@@ -252,7 +252,8 @@ disjoint-told st index x y (disjoint-0 l u s a) e =
     let q = (counts-what-is-held st index u s) .0 in
     (u, s, disjoint-exactly (held st u) (holds-a-sound-table st index u s) x y (omega (arith, a .0)) (omega (arith, a .1)))
 
--- The memo is "never believed": whatever it held, a call gives the same number, the same id and the same table.
+-- The memo is "never believed": whatever it held, and whichever of the allowed lengths it has, a call gives the same number, the same id and the
+-- same table.
 module _ {lent lent″ : Type 0} (to : lent → lent″) (back : lent″ → lent) (known : ℕ → Type 0) (kind : Type 0) (want : Table → Table × ℕ) (st : Store) (index memo memo″ : List ℕ) where
   with-memo : {k id : ℕ} {st′ : Store} {index′ memo′ : List ℕ} → Makes lent known kind want st index memo k id st′ index′ memo′
       → (z″ : List ℕ) × Makes lent″ known kind want st index memo″ k id st′ index′ z″
@@ -263,10 +264,11 @@ module _ {lent lent″ : Type 0} (to : lent → lent″) (back : lent″ → len
   with-memo (made-6 l u s a v f) = (replicate (length memo″) 0, made-6 (to l) u s a v f)
   with-memo (made-0 l u s a v st′ index′ h) = (replicate (length memo″) 0, made-0 (to l) u s a v st′ index′ h)
 
-pub memo-never-believed : (known : ℕ → Type 0) (kind : Type 0) (want : Table → Table × ℕ) (st : Store) (index memo memo″ : List ℕ) → length memo ≡ length memo″ → {k k″ id id″ : ℕ} {st′ st″ : Store} {index′ index″ z z″ : List ℕ}
+pub memo-never-believed : (known : ℕ → Type 0) (kind : Type 0) (want : Table → Table × ℕ) (st : Store) (index memo memo″ : List ℕ)
+    → (MemoLengths (length memo) (room (st .nodes)) → MemoLengths (length memo″) (room (st .nodes))) → (MemoLengths (length memo″) (room (st .nodes)) → MemoLengths (length memo) (room (st .nodes))) → {k k″ id id″ : ℕ} {st′ st″ : Store} {index′ index″ z z″ : List ℕ}
     → WithMemo st index memo known kind want k id st′ index′ z → WithMemo st index memo″ known kind want k″ id″ st″ index″ z″
     → (k ≡ k″) × (id ≡ id″) × (st′ ≡ st″) × (index′ ≡ index″)
-memo-never-believed known kind want st index memo memo″ e o o″ =
-    let w = with-memo {lent″ = Lending st index memo″} (λ l. (l .0, subst (λ (n : ℕ). MemoLengths n (room (st .nodes))) e (l .1))) (λ l. (l .0, subst (λ (n : ℕ). MemoLengths n (room (st .nodes))) (sym e) (l .1))) known kind want st index memo memo″ o in
+memo-never-believed known kind want st index memo memo″ to back o o″ =
+    let w = with-memo {lent″ = Lending st index memo″} (λ l. (l .0, to (l .1))) (λ l. (l .0, back (l .1))) known kind want st index memo memo″ o in
     let q = makes-once (Lending st index memo″) known kind want st index memo″ (w .1) o″ in
     (q .0, q .1, q .2, q .3)
