@@ -9,10 +9,11 @@ use native.Mathlib.Decide.{ℕ-discrete, decLt}
 use lib.Dec.{eqb}
 use borrow.Author.Tests.{lt-ltb, le-ltb, le-leb, lt-leb, eqb-true, eq-eqb, ne-eqb}
 use Rattle.ids.specs.Id.{ref, flip}
-use Rattle.diagram.specs.Pieces.{Pieces, last, cut, count, Each, Rising}
-use Rattle.diagram.specs.Table.{variables, topOf, Table, at, Assignment}
+use Rattle.diagram.specs.Pieces.{Pieces, last, cut}
+use Rattle.diagram.specs.Shape.{count, Each, Rising}
+use Rattle.diagram.specs.Table.{variables, topOf, Table, at, Assignment, Continues, same}
 use Rattle.diagram.specs.Cofactor.{map, edgesOf}
-use Rattle.diagram.specs.Sound.{Known, Child, Sound, Continues, same}
+use Rattle.diagram.specs.Sound.{Known, Child, Sound}
 use Rattle.diagram.proofs.Facts.{facts-at}
 use Rattle.diagram.proofs.Continuing.{continues-child, continues-trans}
 use Rattle.diagram.proofs.Cofactors.{edges-are-kids, edges-rising}

@@ -11,7 +11,8 @@ use Rattle.ranges.specs.Line.{position, top}
 use Rattle.ranges.specs.Ending.{firstPlace, lastPlace, lowerOf, upperOf, outsideOf}
 use Rattle.ranges.specs.declared.bounds.Bound.{Bound}
 use Rattle.ranges.specs.declared.bounds.Comparison.{Comparison}
-use Rattle.diagram.specs.Pieces.{Pieces, last, cut, select, Each, Rising}
+use Rattle.diagram.specs.Pieces.{Pieces, last, cut, select}
+use Rattle.diagram.specs.Shape.{Each, Rising}
 use Rattle.diagram.specs.Table.{variables, isRange, topOf, Table, Assignment, value}
 use Rattle.diagram.specs.Cofactor.{map}
 use Rattle.diagram.specs.Sound.{Child, Sound}

@@ -9,9 +9,9 @@ use lib.Dec.{eqb}
 use borrow.Author.Tests.{eqb-true, eqb-false}
 use Rattle.ids.specs.Id.{ref, flip}
 use Rattle.ids.proofs.Signs.{ref-flip}
-use Rattle.diagram.specs.Table.{variables, topOf, Table, at, Assignment, value}
+use Rattle.diagram.specs.Table.{variables, topOf, Table, at, Assignment, value, Continues}
 use Rattle.diagram.specs.Cofactor.{edgesOf}
-use Rattle.diagram.specs.Sound.{Known, Child, Sound, Continues}
+use Rattle.diagram.specs.Sound.{Known, Child, Sound}
 use Rattle.diagram.proofs.Lookup.{at-end, value-true, value-false, value-flip}
 use Rattle.diagram.proofs.Facts.{facts-at, var-most}
 use Rattle.diagram.proofs.Continuing.{continues-value, continues-child}

@@ -6,10 +6,11 @@ use Prim.Native.Nat.{ℕ, zero, suc, _+_, _≤_, _<_}
 use native.Mathlib.Omega.{arith}
 use borrow.Author.Tests.{ltb-true, ltb-false}
 use Rattle.ids.specs.Id.{ref}
-use Rattle.diagram.specs.Pieces.{Pieces, select, Each, Rising}
-use Rattle.diagram.specs.Table.{variables, topOf, Table, at, Assignment, value}
+use Rattle.diagram.specs.Pieces.{Pieces, select}
+use Rattle.diagram.specs.Shape.{Each, Rising}
+use Rattle.diagram.specs.Table.{variables, topOf, Table, at, Assignment, value, Continues}
 use Rattle.diagram.specs.Cofactor.{edgesOf, upd}
-use Rattle.diagram.specs.Sound.{Known, Child, Sound, Continues}
+use Rattle.diagram.specs.Sound.{Known, Child, Sound}
 use Rattle.diagram.proofs.Piecewise.{each-select}
 use Rattle.diagram.proofs.Continuing.{continues-at, continues-value, continues-child}
 use Rattle.diagram.proofs.Cofactors.{edges-are-kids, edges-rising, edge-child, value-edge, upd-other, continues-edges}

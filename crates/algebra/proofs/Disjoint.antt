@@ -7,7 +7,8 @@ use native.Mathlib.Omega.{arith}
 use lib.Dec.{ltb, eqb}
 use borrow.Author.Tests.{eqb-true, eqb-false}
 use Rattle.ids.specs.Id.{ref, flip}
-use Rattle.diagram.specs.Pieces.{Pieces, last, cut, select, Rising}
+use Rattle.diagram.specs.Pieces.{Pieces, last, cut, select}
+use Rattle.diagram.specs.Shape.{Rising}
 use Rattle.diagram.specs.Table.{variables, topOf, Table, at, Assignment, value}
 use Rattle.diagram.specs.Cofactor.{edgesOf, upd, Within}
 use Rattle.diagram.specs.Sound.{Known, Child, Sound}

@@ -10,7 +10,8 @@ use lib.IntN.{pos}
 use borrow.Author.Tests.{ne-eqb, lt-ltb, le-ltb, ltb-false}
 use Rattle.ranges.specs.Ending.{placeAt}
 use Rattle.ranges.proofs.Positions.{placeAt-position}
-use Rattle.diagram.specs.Pieces.{Pieces, last, cut, select, Each, Rising}
+use Rattle.diagram.specs.Pieces.{Pieces, last, cut, select}
+use Rattle.diagram.specs.Shape.{Each, Rising}
 use Rattle.diagram.specs.Table.{firstBoolean, variables, isRange, topOf, Table, Assignment, value}
 use Rattle.diagram.specs.Cofactor.{edgesOf, upd, Within}
 use Rattle.diagram.specs.Sound.{Known, Child, Sound}
@@ -74,11 +75,11 @@ same-before v ρ σ τ a s i l = s .0 i (λ q. omega arith) ∙ a i l
 
 -- the reading of an assignment that is a reading's before v
 reading-before : (v : ℕ) → v < firstBoolean → (ρ : Reading) (β : Assignment) (w : Within β) → Before v (positions ρ) β → SameBefore v ρ (reading β w)
-reading-before v hv ρ β w h i l = let q : i < firstBoolean = omega arith in place-reading β w i ∙ rw (h i l, lt-ltb i firstBoolean q) (placeAt-position (ρ .place i) (ρ .within i))
+reading-before v hv ρ β w h i l = let q : i < firstBoolean = omega arith in place-reading β w i ∙ rw (h i l, lt-ltb i firstBoolean q) (placeAt-position (ρ .place i) (ρ .within i q))
 
 reading-but : (v : ℕ) → v < firstBoolean → (β γ : Assignment) (w : Within β) (x : Within γ) → ((i : ℕ) → (i ≡ v → ⊥) → γ i ≡ β i) → SameBut v (reading β w) (reading γ x)
 reading-but v hv β γ w x g = (
-  λ i n. place-reading γ x i ∙ ap (λ (m : ℕ). cond (isRange i) (placeAt m) (pos 0)) (g i n) ∙ sym (place-reading β w i),
+  λ i n. place-reading γ x i ∙ ap placeAt (g i n) ∙ sym (place-reading β w i),
   λ i. holds-reading γ x i ∙ held i (isRange i) refl ∙ sym (holds-reading β w i),
 )
   where

@@ -9,9 +9,9 @@ use native.Mathlib.Omega.{arith}
 use native.Mathlib.Decide.{decLt}
 use lib.ListN.{length}
 use Rattle.ids.specs.Id.{ref}
-use Rattle.diagram.specs.Pieces.{count}
-use Rattle.diagram.specs.Table.{Node, Table, at, value}
-use Rattle.diagram.specs.Sound.{Known, Sound, Continues, same}
+use Rattle.diagram.specs.Shape.{count}
+use Rattle.diagram.specs.Table.{Node, Table, at, value, Continues, same}
+use Rattle.diagram.specs.Sound.{Known, Sound}
 use Rattle.diagram.specs.Reading.{Reading, positions, says}
 use Rattle.diagram.specs.Room.{width, edgeTotal, Fits}
 use Rattle.diagram.specs.Ordered.{Ordered, diagramOf}

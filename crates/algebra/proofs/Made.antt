@@ -6,9 +6,10 @@ use Prim.Native.Nat.{ℕ, zero, suc, _≤_, _<_, min}
 use native.Mathlib.Omega.{arith}
 use lib.ListN.{length}
 use Rattle.ids.specs.Id.{ref}
-use Rattle.diagram.specs.Pieces.{select, Rising}
-use Rattle.diagram.specs.Table.{topOf, Node, Table, at, Assignment, value}
-use Rattle.diagram.specs.Sound.{Child, Sound, Continues, same}
+use Rattle.diagram.specs.Pieces.{select}
+use Rattle.diagram.specs.Shape.{Rising}
+use Rattle.diagram.specs.Table.{topOf, Node, Table, at, Assignment, value, Continues, same}
+use Rattle.diagram.specs.Sound.{Child, Sound}
 use Rattle.diagram.specs.Reading.{Reading, positions}
 use Rattle.diagram.specs.Ordered.{Path, here, diagramOf}
 use Rattle.diagram.proofs.Piecewise.{reduced-rising, select-beyond}

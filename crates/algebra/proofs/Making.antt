@@ -10,10 +10,11 @@ use lib.ListN.{length}
 use borrow.Author.Tests.{eqb-true, eq-eqb}
 use Rattle.ids.specs.Id.{sign, ref, under}
 use Rattle.ids.proofs.Signs.{under-inj, ref-under, sign-under}
-use Rattle.diagram.specs.Pieces.{Pieces, last, cut, select, first, Each, Rising, Reduced}
-use Rattle.diagram.specs.Table.{variables, topOf, Node, Table, at, Assignment, flipped, value}
+use Rattle.diagram.specs.Pieces.{Pieces, last, cut, select}
+use Rattle.diagram.specs.Shape.{first, Each, Rising, Reduced}
+use Rattle.diagram.specs.Table.{variables, topOf, Node, Table, at, Assignment, flipped, value, same, more}
 use Rattle.diagram.specs.Cofactor.{map}
-use Rattle.diagram.specs.Sound.{Child, Extends, Sound, same, more}
+use Rattle.diagram.specs.Sound.{Child, Extends, Sound}
 use Rattle.diagram.proofs.Lookup.{truth, at-new, at-old, at-end, truth-new, value-under, value-ref, flipped-flipped}
 use Rattle.diagram.proofs.Piecewise.{count-pos}
 use Rattle.diagram.proofs.Facts.{facts-at}

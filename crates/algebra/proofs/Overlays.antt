@@ -6,7 +6,8 @@ use native.Mathlib.Omega.{arith}
 use native.Mathlib.Decide.{ℕ-discrete}
 use lib.Dec.{ltb, leb}
 use borrow.Author.Tests.{ltb-true, ltb-false, leb-true, leb-false, eq-eqb, ne-eqb}
-use Rattle.diagram.specs.Pieces.{Pieces, last, cut, select, first, Each, Rising, Reduced}
+use Rattle.diagram.specs.Pieces.{Pieces, last, cut, select}
+use Rattle.diagram.specs.Shape.{first, Each, Rising, Reduced}
 use Rattle.diagram.proofs.Piecewise.{select-left, select-right, select-before, reduced-rising, reduced-down}
 use Rattle.algebra.specs.Overlay.{below, beside, above, overlay, join, merge}
 

@@ -19,10 +19,11 @@ use Rattle.ranges.specs.declared.bounds.Bound.{Bound}
 use Rattle.ranges.specs.declared.bounds.Comparison.{Comparison}
 use Rattle.ranges.proofs.Positions.{position-top, place-first, place-last, inside-positions, compares-bounds, keyed-lower, keyed-upper}
 use Rattle.ranges.proofs.Nearest.{nearest, first-place-le-last, place-nearest, nearest-is, position-of-nearest, empty-exactly}
-use Rattle.diagram.specs.Pieces.{Pieces, select, Each, Rising}
-use Rattle.diagram.specs.Table.{firstBoolean, variables, topOf, Table, Assignment, value}
+use Rattle.diagram.specs.Pieces.{Pieces, select}
+use Rattle.diagram.specs.Shape.{Each, Rising}
+use Rattle.diagram.specs.Table.{firstBoolean, variables, topOf, Table, Assignment, value, Continues}
 use Rattle.diagram.specs.Cofactor.{upd}
-use Rattle.diagram.specs.Sound.{Known, Child, Sound, Continues}
+use Rattle.diagram.specs.Sound.{Known, Child, Sound}
 use Rattle.diagram.specs.Reading.{Reading, positions, says, everywhere, SameBut, switched}
 use Rattle.diagram.specs.Room.{width, edgeTotal, Fits}
 use Rattle.diagram.proofs.Lookup.{value-false}
@@ -64,19 +65,19 @@ module _ (v : ℕ) (hv : v < firstBoolean) (lower upper : Bound) (kl : Keyed low
   between-inside : (ρ : Reading) → select (between lo hi (topOf v)) (positions ρ v) ≡ inside lower upper (ρ .place v)
   between-inside ρ =
       select-between lo hi (topOf v) (positions ρ v) (positions-within ρ v) ∙ ap (λ (p : ℕ). leb lo p && leb p hi) (position-range v hv ρ)
-      ∙ sym (inside-positions lower upper kl ku (ρ .place v) (ρ .within v))
+      ∙ sym (inside-positions lower upper kl ku (ρ .place v) (ρ .within v hv))
 
 -- Two bounds are empty, or each reading has one with v at the nearest place inside them.
-pub empty-or-nearest : (v : ℕ) (lower upper : Bound) → Keyed lower → Keyed upper → Empty lower upper ⊎ ((ρ : Reading) → (σ : Reading) × AtNearest v lower upper ρ σ)
-empty-or-nearest v lower upper kl ku = go (empty lower upper) refl
+pub empty-or-nearest : (v : ℕ) → v < firstBoolean → (lower upper : Bound) → Keyed lower → Keyed upper → Empty lower upper ⊎ ((ρ : Reading) → (σ : Reading) × AtNearest v lower upper ρ σ)
+empty-or-nearest v hv lower upper kl ku = go (empty lower upper) refl
   where
     go : (b : Bool) → empty lower upper ≡ b → Empty lower upper ⊎ ((ρ : Reading) → (σ : Reading) × AtNearest v lower upper ρ σ)
     go true e = inl (empty-exactly lower upper kl ku .0 e)
     go false e = inr (λ ρ.
         let p = ρ .place v in
         let q = nearest lower upper p in
-        let h = place-nearest lower upper kl ku p (ρ .within v) in
-        (atPlace ρ v q h, (same-but-atPlace ρ v q h, rw (place-atPlace ρ v q h) (nearest-is lower upper kl ku e p (ρ .within v)))))
+        let h = place-nearest lower upper kl ku p (ρ .within v hv) in
+        (atPlace ρ v q h, (same-but-atPlace ρ v q h, rw (place-atPlace ρ v q h) (nearest-is lower upper kl ku e p (ρ .within v hv)))))
 
 -- and what an id says there is one thing: two readings with v at the nearest place have it at the same.
 pub nearest-says-once : (v : ℕ) → v < firstBoolean → (lower upper : Bound) → Keyed lower → Keyed upper → (t : Table) (id : ℕ) (ρ σ τ : Reading)
@@ -84,11 +85,11 @@ pub nearest-says-once : (v : ℕ) → v < firstBoolean → (lower upper : Bound)
 nearest-says-once v hv lower upper kl ku t id ρ σ τ n m = go (empty lower upper) refl
   where
     go : (b : Bool) → empty lower upper ≡ b → says t σ id ≡ says t τ id
-    go true x = absurd (false≢true (sym (empty-exactly lower upper kl ku .0 x (σ .place v) (σ .within v)) ∙ n .1 .within))
+    go true x = absurd (false≢true (sym (empty-exactly lower upper kl ku .0 x (σ .place v) (σ .within v hv)) ∙ n .1 .within))
     go false e = ap (λ (α : Assignment). value t α id) (there σ n ∙ sym (there τ m))
       where
         there : (π : Reading) → AtNearest v lower upper ρ π → positions π ≡ upd (positions ρ) v (max (position (firstPlace lower)) (min (position (ρ .place v)) (position (lastPlace upper))))
-        there π k = positions-same-but ρ π v hv (k .0) ∙ ap (upd (positions ρ) v) (position-of-nearest lower upper kl ku e (ρ .place v) (π .place v) (ρ .within v) (π .within v) (k .1))
+        there π k = positions-same-but ρ π v hv (k .0) ∙ ap (upd (positions ρ) v) (position-of-nearest lower upper kl ku e (ρ .place v) (π .place v) (ρ .within v hv) (π .within v hv) (k .1))
 
 -- Theorem 4. From a sound table each operation makes a sound one that continues it, with an id that says what document 01 asks, and
 -- no added node that the answer does not reach.
@@ -151,14 +152,14 @@ module _ (t : Table) (z : Sound t) where
       narrow-answers near n =
           rw e (made-answers (narrowed-made v (position (firstPlace lower)) (position (lastPlace upper)) (first-place-le-last lower upper kl ku e) (hi-top v hv lower upper kl ku) t z (omega arith) id k) _
           (λ ρ. sym (ap (λ (α : Assignment). value t α id) (positions-same-but ρ (near ρ) v hv (n ρ .0)
-          ∙ ap (upd (positions ρ) v) (position-of-nearest lower upper kl ku e (ρ .place v) ((near ρ) .place v) (ρ .within v) ((near ρ) .within v) (n ρ .1)
+          ∙ ap (upd (positions ρ) v) (position-of-nearest lower upper kl ku e (ρ .place v) ((near ρ) .place v) (ρ .within v hv) ((near ρ) .within v hv) (n ρ .1)
           ∙ ap (λ (p : ℕ). max (position (firstPlace lower)) (min p (position (lastPlace upper)))) (sym (position-range v hv ρ)))))))
         where
           σ : Reading
           σ = near (everywhere lowest (leZ-yes tt, leZ-yes tt))
 
           go : (b : Bool) → empty lower upper ≡ b → b ≡ false
-          go true x = absurd (false≢true (sym (empty-exactly lower upper kl ku .0 x (σ .place v) (σ .within v)) ∙ n (everywhere lowest (leZ-yes tt, leZ-yes tt)) .1 .within))
+          go true x = absurd (false≢true (sym (empty-exactly lower upper kl ku .0 x (σ .place v) (σ .within v hv)) ∙ n (everywhere lowest (leZ-yes tt, leZ-yes tt)) .1 .within))
           go false x = refl
 
           e : empty lower upper ≡ false
@@ -181,7 +182,7 @@ module _ (t : Table) (z : Sound t) where
         where
           go : (b : Bool) → empty lower upper ≡ b → Answers t (λ ρ. says t ρ id && inside lower upper (ρ .place v)) (widen t v lower upper id)
           go true e = rw e (made-answers (unchanged t z 0 FALSE (omega arith, omega arith) (λ α. false) (λ α. value-false t α FALSE refl)) _
-              (λ ρ. rw (empty-exactly lower upper kl ku .0 e (ρ .place v) (ρ .within v)) (sym (and-false (says t ρ id)))))
+              (λ ρ. rw (empty-exactly lower upper kl ku .0 e (ρ .place v) (ρ .within v hv)) (sym (and-false (says t ρ id)))))
           go false e = rw e (made-answers (widened-made v (position (firstPlace lower)) (position (lastPlace upper)) (lo-top v hv lower upper kl ku) (omega arith) t z id k) _
               (λ ρ. ap (λ (b : Bool). says t ρ id && b) (between-inside v hv lower upper kl ku ρ)))
 

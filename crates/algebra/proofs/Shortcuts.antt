@@ -27,7 +27,7 @@ steady-terminal t (suc (suc n)) h ρ σ = absurd (omega arith)
 module _ (t : Table) (z : Sound t) (v : ℕ) (hv : v < firstBoolean) where
   -- "Terminals, or both ends open: the id unchanged."
   pub narrow-terminal : (lower upper : Bound) → Keyed lower → Keyed upper → (id : ℕ) → id < 2 → narrow t v lower upper id ≡ (t, id)
-  narrow-terminal lower upper kl ku id h = go (empty-or-nearest v lower upper kl ku)
+  narrow-terminal lower upper kl ku id h = go (empty-or-nearest v hv lower upper kl ku)
     where
       k : Known t id
       k = omega arith

@@ -7,9 +7,10 @@ use native.Mathlib.Decide.{decLt}
 use lib.Dec.{ltb}
 use lib.ListN.{length}
 use Rattle.ids.specs.Id.{ref}
-use Rattle.diagram.specs.Pieces.{Pieces, last, cut, select, Each, Rising}
-use Rattle.diagram.specs.Table.{variables, topOf, Table, Assignment, value}
-use Rattle.diagram.specs.Sound.{Child, Sound, Continues, same}
+use Rattle.diagram.specs.Pieces.{Pieces, last, cut, select}
+use Rattle.diagram.specs.Shape.{Each, Rising}
+use Rattle.diagram.specs.Table.{variables, topOf, Table, Assignment, value, Continues, same}
+use Rattle.diagram.specs.Sound.{Child, Sound}
 use Rattle.diagram.proofs.Piecewise.{select-left, select-right, each-select}
 use Rattle.diagram.proofs.Continuing.{continues-trans, continues-value, continues-child, continues-kids}
 use Rattle.algebra.specs.Conjunction.{walk, walkBack, walkIn, create-over}

@@ -5,8 +5,8 @@ use mathlib.Core.Bool.{Bool}
 use Prim.Native.Nat.{ℕ, _≤_, _<_}
 use lib.ListN.{length}
 use Rattle.ids.specs.Id.{ref}
-use Rattle.diagram.specs.Table.{Table}
-use Rattle.diagram.specs.Sound.{Known, Sound, Continues}
+use Rattle.diagram.specs.Table.{Table, Continues}
+use Rattle.diagram.specs.Sound.{Known, Sound}
 use Rattle.diagram.specs.Reading.{Reading, says}
 use Rattle.diagram.specs.Ordered.{Path, diagramOf}
 use Rattle.diagram.specs.Room.{Fits}

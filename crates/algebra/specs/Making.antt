@@ -5,7 +5,8 @@ use Prim.Native.Nat.{ℕ, zero, suc, _+_, _*_}
 use lib.Dec.{eqb}
 use lib.ListN.{length}
 use Rattle.ids.specs.Id.{sign, under}
-use Rattle.diagram.specs.Pieces.{Pieces, last, cut, first}
+use Rattle.diagram.specs.Pieces.{Pieces, last, cut}
+use Rattle.diagram.specs.Shape.{first}
 use Rattle.diagram.specs.Table.{Node, Table}
 use Rattle.diagram.specs.Cofactor.{map}
 use Rattle.algebra.specs.Overlay.{merge}

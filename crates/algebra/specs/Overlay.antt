@@ -2,7 +2,8 @@
 use mathlib.Core.Bool.{cond}
 use Prim.Native.Nat.{ℕ}
 use lib.Dec.{ltb, leb, eqb}
-use Rattle.diagram.specs.Pieces.{Pieces, last, cut, first}
+use Rattle.diagram.specs.Pieces.{Pieces, last, cut}
+use Rattle.diagram.specs.Shape.{first}
 
 module _ {A B : Type 0} where
   -- a beside each value of f below the position k, and then r

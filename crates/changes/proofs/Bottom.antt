@@ -9,12 +9,12 @@ use lib.Dec.{ltb}
 use lib.ListN.{length}
 use lib.IntN.{ℤ}
 use borrow.Author.Tests.{lt-ltb, le-ltb}
-use Rattle.ids.specs.Id.{FALSE, ref}
-use Rattle.ids.specs.Index.{KnownTo}
+use Rattle.ids.specs.Id.{FALSE, ref, KnownTo}
 use Rattle.ids.specs.declared.NodeId.{NodeId}
 use Rattle.ranges.specs.Line.{top}
 use Rattle.ranges.specs.declared.spans.Range.{Range}
-use Rattle.diagram.specs.Pieces.{Pieces, last, cut, count, Each, Rising, Reduced}
+use Rattle.diagram.specs.Pieces.{Pieces, last, cut}
+use Rattle.diagram.specs.Shape.{count, Each, Rising, Reduced}
 use Rattle.diagram.specs.Table.{firstBoolean, topOf, Table, at}
 use Rattle.diagram.specs.Cofactor.{edgesOf}
 use Rattle.diagram.specs.Sound.{Child}

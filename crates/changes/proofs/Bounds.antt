@@ -6,8 +6,7 @@ use Prim.Native.Nat.{ℕ, _≤_, _<_}
 use lib.Dec.{ltb}
 use lib.IntN.{ℤ}
 use borrow.Author.Tests.{lt-ltb, le-ltb}
-use Rattle.ids.specs.Id.{FALSE}
-use Rattle.ids.specs.Index.{KnownTo}
+use Rattle.ids.specs.Id.{FALSE, KnownTo}
 use Rattle.ranges.specs.Line.{position}
 use Rattle.ranges.specs.Bounding.{Keyed}
 use Rattle.ranges.specs.Ending.{firstPlace, lastPlace, empty, Bounded}

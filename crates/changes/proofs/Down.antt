@@ -10,10 +10,9 @@ use borrow.Author.Tests.{not-false, not-true}
 use Rattle.ids.specs.Id.{TRUE, ref}
 use Rattle.ids.specs.declared.NodeId.{NodeId}
 use Rattle.diagram.specs.Pieces.{Pieces}
-use Rattle.diagram.specs.Table.{variables, isRange, Table, Assignment, at}
-use Rattle.diagram.specs.Room.{mostEdges}
+use Rattle.diagram.specs.Table.{variables, isRange, Table, Assignment, at, Continues, mostEdges}
 use Rattle.diagram.specs.Cofactor.{edgesOf}
-use Rattle.diagram.specs.Sound.{Known, Child, Sound, Continues}
+use Rattle.diagram.specs.Sound.{Known, Child, Sound}
 use Rattle.diagram.proofs.Continuing.{continues-length}
 use Rattle.diagram.proofs.Facts.{is-node}
 use Rattle.algebra.specs.Making.{create-node}

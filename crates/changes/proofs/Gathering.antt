@@ -11,10 +11,11 @@ use lib.Seq.{getD-set-same, getD-set-other}
 use lib.IntN.{ℤ}
 use borrow.Author.Tests.{lt-ltb, le-ltb}
 use Rattle.ids.specs.Id.{TRUE}
-use Rattle.diagram.specs.Pieces.{Pieces, Each, Rising, Reduced, run}
-use Rattle.diagram.specs.Table.{variables, firstBoolean, isRange, topOf, Table, Assignment}
-use Rattle.diagram.specs.Room.{mostEdges, Fits}
-use Rattle.diagram.specs.Sound.{Known, Child, Sound, Continues}
+use Rattle.diagram.specs.Pieces.{Pieces}
+use Rattle.diagram.specs.Shape.{Each, Rising, Reduced, run}
+use Rattle.diagram.specs.Table.{variables, firstBoolean, isRange, topOf, Table, Assignment, Continues, mostEdges}
+use Rattle.diagram.specs.Room.{Fits}
+use Rattle.diagram.specs.Sound.{Known, Child, Sound}
 use Rattle.diagram.proofs.Continuing.{continues-child}
 use Rattle.diagram.proofs.Numbered.{run-shift}
 use Rattle.algebra.specs.Making.{create-node}

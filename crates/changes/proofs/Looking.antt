@@ -6,8 +6,7 @@ use Prim.Native.Nat.{ℕ, _-_, _≤_, _<_}
 use native.Mathlib.Omega.{arith}
 use borrow.Author.Tests.{lt-ltb, le-ltb}
 use lib.Dec.{ltb}
-use Rattle.ids.specs.Id.{ref}
-use Rattle.ids.specs.Index.{KnownTo}
+use Rattle.ids.specs.Id.{ref, KnownTo}
 use Rattle.diagram.specs.Table.{variables, Node, Table, at}
 use Rattle.diagram.proofs.Lookup.{at-end}
 use Rattle.algebra.specs.Changing.{isBefore}

@@ -6,9 +6,9 @@ use Prim.Native.Nat.{ℕ, _-_, _≤_, _<_}
 use native.Mathlib.Omega.{arith}
 use native.Mathlib.Decide.{ℕ-discrete}
 use lib.IntN.{ℤ}
-use Rattle.ids.specs.Id.{ref}
-use Rattle.ids.specs.Index.{KnownTo}
-use Rattle.diagram.specs.Pieces.{Pieces, select, Rising}
+use Rattle.ids.specs.Id.{ref, KnownTo}
+use Rattle.diagram.specs.Pieces.{Pieces, select}
+use Rattle.diagram.specs.Shape.{Rising}
 use Rattle.diagram.specs.Table.{variables, firstBoolean, topOf, Table, at}
 use Rattle.diagram.specs.Cofactor.{edgesOf}
 use Rattle.diagram.proofs.Cofactors.{edge-other}

@@ -2,7 +2,7 @@
 ghost use mathlib.Core.Path.{_≡_};
 ghost use Prim.Native.Nat.{_*_, _≤_, _<_};
 ghost use lib.ListN.{length};
-ghost use Rattle.ids.specs.Index.{KnownTo};
+ghost use Rattle.ids.specs.Id.{KnownTo};
 ghost use Rattle.diagram.specs.Table.{firstBoolean, variables};
 ghost use Rattle.algebra.specs.Changing.{restrict as restriction};
 ghost use Rattle.table.specs.Layout.{room, MemoLengths, store};

@@ -3,7 +3,7 @@ ghost use mathlib.Core.Path.{_≡_};
 ghost use mathlib.Core.Bool.{true, false};
 ghost use Prim.Native.Nat.{_*_, _≤_, _<_};
 ghost use lib.ListN.{length};
-ghost use Rattle.ids.specs.Index.{KnownTo};
+ghost use Rattle.ids.specs.Id.{KnownTo};
 ghost use Rattle.ranges.specs.Line.{top};
 ghost use Rattle.diagram.specs.Table.{firstBoolean, variables};
 ghost use Rattle.diagram.specs.Cofactor.{edgesOf};

@@ -4,8 +4,9 @@ use mathlib.Core.Bool.{true, false}
 use Prim.Native.Nat.{ℕ, zero, suc, _+_, _-_, _≤_, _<_}
 use native.Mathlib.Omega.{arith}
 use Rattle.ids.specs.Id.{FALSE}
-use Rattle.diagram.specs.Pieces.{Pieces, last, cut, count, run}
-use Rattle.diagram.specs.Room.{mostEdges}
+use Rattle.diagram.specs.Pieces.{Pieces, last, cut}
+use Rattle.diagram.specs.Shape.{count, run}
+use Rattle.diagram.specs.Table.{mostEdges}
 use Rattle.algebra.specs.Overlay.{merge}
 use Rattle.table.proofs.Laws.{not-false-and-true}
 use Rattle.merging.proofs.Gluing.{glued, Glue, run-is-merge, glued-below-count}

@@ -12,9 +12,9 @@ use lib.IntN.{ℤ}
 use borrow.Author.Tests.{leb-true, leb-false, le-leb, lt-leb}
 use Rattle.ids.specs.declared.NodeId.{NodeId}
 use Rattle.ranges.specs.Line.{top}
-use Rattle.diagram.specs.Pieces.{cut, run}
-use Rattle.diagram.specs.Table.{firstBoolean}
-use Rattle.diagram.specs.Room.{mostEdges}
+use Rattle.diagram.specs.Pieces.{cut}
+use Rattle.diagram.specs.Shape.{run}
+use Rattle.diagram.specs.Table.{firstBoolean, mostEdges}
 use Rattle.diagram.proofs.Numbered.{run-shift}
 use Rattle.algebra.specs.Changing.{cutAbove}
 use Rattle.table.proofs.Laws.{lt-or-le, not-false-and-true}

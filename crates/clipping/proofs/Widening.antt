@@ -12,9 +12,9 @@ use borrow.Author.Tests.{ltb-true, ltb-false}
 use Rattle.ids.specs.Id.{FALSE}
 use Rattle.ids.specs.declared.NodeId.{NodeId}
 use Rattle.ranges.specs.Line.{top}
-use Rattle.diagram.specs.Pieces.{Pieces, last, cut, first, count, Rising, run}
-use Rattle.diagram.specs.Table.{firstBoolean, topOf}
-use Rattle.diagram.specs.Room.{mostEdges}
+use Rattle.diagram.specs.Pieces.{Pieces, last, cut}
+use Rattle.diagram.specs.Shape.{first, count, Rising, run}
+use Rattle.diagram.specs.Table.{firstBoolean, topOf, mostEdges}
 use Rattle.diagram.proofs.Numbered.{first-run}
 use Rattle.diagram.proofs.Readings.{range-top}
 use Rattle.algebra.specs.Overlay.{above, merge}

@@ -8,7 +8,8 @@ use native.Mathlib.Decide.{ℕ-discrete, decLt}
 use lib.Dec.{ltb, leb, eqb}
 use borrow.Author.Tests.{lt-ltb, le-ltb, le-leb, lt-leb, eq-eqb, ne-eqb}
 use Rattle.ids.specs.Id.{FALSE}
-use Rattle.diagram.specs.Pieces.{Pieces, last, cut, first, Rising}
+use Rattle.diagram.specs.Pieces.{Pieces, last, cut}
+use Rattle.diagram.specs.Shape.{first, Rising}
 use Rattle.diagram.specs.Cofactor.{map}
 use Rattle.algebra.specs.Overlay.{above, overlay, join, merge}
 use Rattle.algebra.specs.Conditions.{upTo, between}

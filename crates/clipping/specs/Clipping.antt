@@ -4,8 +4,9 @@ use mathlib.Core.Bool.{true, false}
 use Prim.Native.Nat.{ℕ, zero, suc, _+_, _-_, _≤_, _<_}
 use lib.ListN.{length}
 use Rattle.ids.specs.Id.{FALSE}
-use Rattle.diagram.specs.Pieces.{Pieces, last, cut, count}
-use Rattle.diagram.specs.Room.{mostEdges}
+use Rattle.diagram.specs.Pieces.{Pieces, last, cut}
+use Rattle.diagram.specs.Shape.{count}
+use Rattle.diagram.specs.Table.{mostEdges}
 use Rattle.algebra.specs.Overlay.{merge}
 use Rattle.making.specs.declared.edges.Edges as built
 use Rattle.making.specs.Building.{Building, childIn, cutIn, piecesOf}

@@ -5,7 +5,7 @@ ghost use mathlib.Core.List.{List};
 ghost use Prim.Native.Nat.{ℕ, _≤_, _<_, min};
 ghost use lib.ListN.{length};
 ghost use Rattle.ranges.specs.Line.{top};
-ghost use Rattle.diagram.specs.Pieces.{Rising};
+ghost use Rattle.diagram.specs.Shape.{Rising};
 ghost use Rattle.diagram.specs.Table.{firstBoolean, topOf};
 ghost use Rattle.algebra.specs.Overlay.{above};
 ghost use Rattle.algebra.specs.Changing.{narrowed as narrowedPieces, widened as widenedPieces};

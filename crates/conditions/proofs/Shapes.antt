@@ -7,9 +7,10 @@ use native.Mathlib.Omega.{arith}
 use lib.ListN.{length, getD, set, length-set}
 use lib.Seq.{getD-set-same, getD-set-other}
 use borrow.Author.Tests.{lt-ltb, le-ltb, eq-eqb, ne-eqb}
-use Rattle.diagram.specs.Pieces.{last, cut, run}
+use Rattle.diagram.specs.Pieces.{last, cut}
+use Rattle.diagram.specs.Shape.{run}
 use Rattle.diagram.specs.Cofactor.{map}
-use Rattle.diagram.specs.Room.{mostEdges}
+use Rattle.diagram.specs.Table.{mostEdges}
 use Rattle.algebra.specs.Conditions.{upTo, between, terminal}
 use Rattle.making.specs.declared.edges.Edge.{Edge}
 use Rattle.making.specs.Building.{Building, none, piecesOf}

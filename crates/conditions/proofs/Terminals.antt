@@ -5,7 +5,8 @@ use Prim.Native.Nat.{ℕ, suc, _≤_, _<_}
 use native.Mathlib.Omega.{arith}
 use lib.Dec.{ltb, eqb}
 use borrow.Author.Tests.{ltb-true, ltb-false, eqb-false}
-use Rattle.diagram.specs.Pieces.{Pieces, last, cut, first, Each, Reduced}
+use Rattle.diagram.specs.Pieces.{Pieces, last, cut}
+use Rattle.diagram.specs.Shape.{first, Each, Reduced}
 use Rattle.diagram.specs.Table.{variables, topOf, Table}
 use Rattle.diagram.specs.Cofactor.{map}
 use Rattle.diagram.specs.Sound.{Child}

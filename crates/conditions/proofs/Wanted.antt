@@ -16,7 +16,7 @@ use Rattle.ranges.specs.declared.bounds.Comparison.{Comparison}
 use Rattle.ranges.specs.declared.spans.Range.{Range}
 use Rattle.ranges.specs.declared.spans.Compared.{Compared}
 use Rattle.ranges.specs.Ending.{Bounded, Compares}
-use Rattle.diagram.specs.Pieces.{Reduced}
+use Rattle.diagram.specs.Shape.{Reduced}
 use Rattle.diagram.specs.Table.{firstBoolean, topOf, Table}
 use Rattle.diagram.specs.Cofactor.{map}
 use Rattle.diagram.proofs.Readings.{range-top}

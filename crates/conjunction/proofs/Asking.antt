@@ -11,9 +11,8 @@ use lib.Dec.{eqb}
 use lib.ListN.{length}
 use lib.IntN.{ℤ}
 use borrow.Author.Tests.{lt-ltb, eq-eqb, ne-eqb}
-use Rattle.ids.specs.Id.{ref}
-use Rattle.ids.specs.Index.{KnownTo}
-use Rattle.diagram.specs.Pieces.{count}
+use Rattle.ids.specs.Id.{ref, KnownTo}
+use Rattle.diagram.specs.Shape.{count}
 use Rattle.diagram.specs.Table.{variables, firstBoolean, isRange, Table, at, value}
 use Rattle.diagram.specs.Cofactor.{edgesOf}
 use Rattle.diagram.specs.Sound.{Known, Child}

@@ -1,6 +1,6 @@
 // Conjunction and disjunction of two ids, the checks 1 to 5 being done. `and` and `or` of the source. The memo's entries have to be true of
 // the table; beside an answer they are so again, for an operation that may follow.
-ghost use Rattle.ids.specs.Index.{KnownTo};
+ghost use Rattle.ids.specs.Id.{KnownTo};
 ghost use Rattle.algebra.specs.Conjunction.{and as conjunction, or as disjunction};
 ghost use Rattle.table.specs.Layout.{store};
 ghost use Rattle.making.specs.Outcome.{tableOf};

@@ -8,7 +8,8 @@ use lib.Dec.{eqb}
 use borrow.Author.Tests.{eqb-true, eqb-false}
 use Rattle.ids.specs.Id.{sign, ref, under}
 use Rattle.ids.proofs.Signs.{under-inj}
-use Rattle.diagram.specs.Pieces.{Pieces, last, select, count}
+use Rattle.diagram.specs.Pieces.{Pieces, last, select}
+use Rattle.diagram.specs.Shape.{count}
 use Rattle.diagram.specs.Table.{variables, topOf, Table, at, Assignment, flipped, value}
 use Rattle.diagram.specs.Cofactor.{map, edgesOf, upd, Within}
 use Rattle.diagram.specs.Sound.{Known, Child, Sound}

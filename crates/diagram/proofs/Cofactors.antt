@@ -8,10 +8,11 @@ use lib.Dec.{ltb, eqb}
 use borrow.Author.Tests.{eqb-true, eq-eqb, ne-eqb}
 use Rattle.ids.specs.Id.{sign, ref, under}
 use Rattle.ids.proofs.Signs.{under-inj, ref-under}
-use Rattle.diagram.specs.Pieces.{Pieces, last, cut, select, first, count, Each, Rising, Reduced}
-use Rattle.diagram.specs.Table.{variables, topOf, Table, at, Assignment, flipped, value}
+use Rattle.diagram.specs.Pieces.{Pieces, last, cut, select}
+use Rattle.diagram.specs.Shape.{first, count, Each, Rising, Reduced}
+use Rattle.diagram.specs.Table.{variables, topOf, Table, at, Assignment, flipped, value, Continues}
 use Rattle.diagram.specs.Cofactor.{map, edgesOf, upd, Within}
-use Rattle.diagram.specs.Sound.{Known, Child, Sound, Continues}
+use Rattle.diagram.specs.Sound.{Known, Child, Sound}
 use Rattle.diagram.proofs.Lookup.{value-truth, value-under}
 use Rattle.diagram.proofs.Piecewise.{count-pos, each-select, reduced-rising}
 use Rattle.diagram.proofs.Facts.{facts-at, is-node, value-agree}

@@ -4,9 +4,10 @@ use Prim.Native.Nat.{ℕ, _≤_}
 use native.Mathlib.Omega.{arith}
 use lib.ListN.{length}
 use Rattle.ids.specs.Id.{ref}
-use Rattle.diagram.specs.Pieces.{Pieces, Each}
-use Rattle.diagram.specs.Table.{Table, at, Assignment, value}
-use Rattle.diagram.specs.Sound.{Known, Child, Continues, same, more}
+use Rattle.diagram.specs.Pieces.{Pieces}
+use Rattle.diagram.specs.Shape.{Each}
+use Rattle.diagram.specs.Table.{Table, at, Assignment, value, Continues, same, more}
+use Rattle.diagram.specs.Sound.{Known, Child}
 use Rattle.diagram.proofs.Lookup.{at-old, value-old}
 use Rattle.diagram.proofs.Piecewise.{each-imp}
 

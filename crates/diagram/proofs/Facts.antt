@@ -7,7 +7,8 @@ use native.Mathlib.Omega.{arith}
 use native.Mathlib.Decide.{ℕ-discrete}
 use lib.ListN.{length}
 use Rattle.ids.specs.Id.{sign, ref}
-use Rattle.diagram.specs.Pieces.{Pieces, select, first, count, Each, Reduced}
+use Rattle.diagram.specs.Pieces.{Pieces, select}
+use Rattle.diagram.specs.Shape.{first, count, Each, Reduced}
 use Rattle.diagram.specs.Table.{variables, topOf, Node, Table, at, Assignment, signed, value}
 use Rattle.diagram.specs.Sound.{Child, Extends, Sound}
 use Rattle.diagram.proofs.Lookup.{truth, value-truth, at-new, at-old, at-end, truth-new, truth-old, value-old}

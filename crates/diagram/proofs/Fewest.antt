@@ -9,7 +9,8 @@ use native.Mathlib.Decide.{ℕ-discrete, decLt}
 use lib.ListN.{length}
 use Rattle.ids.specs.Id.{sign, ref, flip, under}
 use Rattle.ids.proofs.Signs.{ref-under, ref-flip}
-use Rattle.diagram.specs.Pieces.{Pieces, select, count}
+use Rattle.diagram.specs.Pieces.{Pieces, select}
+use Rattle.diagram.specs.Shape.{count}
 use Rattle.diagram.specs.Table.{variables, topOf, Node, Table, at, Assignment, value}
 use Rattle.diagram.specs.Cofactor.{edgesOf, upd, Within}
 use Rattle.diagram.specs.Sound.{Known, Child, Sound}

@@ -2,7 +2,8 @@
 use mathlib.Core.Path.{_≡_, refl, _∙_, ap, subst}
 use Prim.Native.Nat.{ℕ, zero, suc, _+_, _≤_, _<_}
 use native.Mathlib.Omega.{arith}
-use Rattle.diagram.specs.Pieces.{last, cut, first, count, Each, run}
+use Rattle.diagram.specs.Pieces.{last, cut}
+use Rattle.diagram.specs.Shape.{first, count, Each, run}
 use Rattle.diagram.specs.Cofactor.{map}
 
 module _ {A : Type 0} (c : ℕ → A) (k : ℕ → ℕ) where

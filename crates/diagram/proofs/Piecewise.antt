@@ -6,7 +6,8 @@ use native.Mathlib.Omega.{arith}
 use native.Mathlib.Decide.{ℕ-discrete}
 use lib.Dec.{ltb}
 use borrow.Author.Tests.{ltb-true, ltb-false, lt-ltb, le-ltb}
-use Rattle.diagram.specs.Pieces.{Pieces, last, cut, select, first, count, Each, Rising, Reduced}
+use Rattle.diagram.specs.Pieces.{Pieces, last, cut, select}
+use Rattle.diagram.specs.Shape.{first, count, Each, Rising, Reduced}
 
 module _ {A : Type 0} where
   pub select-left : (a : A) (k : ℕ) (e : Pieces A) (p : ℕ) → p < k → select (cut a k e) p ≡ a

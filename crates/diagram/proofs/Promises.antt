@@ -10,9 +10,10 @@ use lib.ListN.{length}
 use borrow.Author.Tests.{le-ltb}
 use Rattle.ids.specs.Id.{TRUE, FALSE, sign, ref, flip}
 use Rattle.ranges.specs.Line.{Place, lowest}
-use Rattle.diagram.specs.Pieces.{Pieces, last, cut, count, Reduced}
-use Rattle.diagram.specs.Table.{firstBoolean, isRange, Table, at, Assignment, flipped, value}
-use Rattle.diagram.specs.Sound.{Known, Sound, Continues}
+use Rattle.diagram.specs.Pieces.{Pieces, last, cut}
+use Rattle.diagram.specs.Shape.{count, Reduced}
+use Rattle.diagram.specs.Table.{firstBoolean, isRange, Table, at, Assignment, flipped, value, Continues}
+use Rattle.diagram.specs.Sound.{Known, Sound}
 use Rattle.diagram.specs.Reading.{Reading, positions, says, everywhere}
 use Rattle.diagram.specs.Ordered.{Diagram, Ordered, Tells, Reached, edges, diagramOf}
 use Rattle.diagram.proofs.Lookup.{value-flip}

@@ -4,9 +4,8 @@ use mathlib.Core.Bool.{Bool, true, false, cond}
 use Prim.Native.Nat.{ℕ, zero, suc, _≤_, _<_}
 use native.Mathlib.Omega.{arith}
 use lib.Dec.{ltb, eqb}
-use lib.IntN.{ℤ, pos}
-use lib.Signed.{leZ-yes}
-use borrow.Author.Tests.{eqb-true, eqb-false, eq-eqb, ne-eqb, lt-ltb, le-ltb}
+use lib.IntN.{ℤ}
+use borrow.Author.Tests.{eqb-true, eqb-false, eq-eqb, ne-eqb, lt-ltb, le-ltb, ltb-true}
 use Rattle.ranges.specs.Line.{Place, position, top}
 use Rattle.ranges.specs.Ending.{placeAt}
 use Rattle.ranges.proofs.Positions.{position-top, place-placeAt, position-placeAt}
@@ -23,26 +22,22 @@ bool-top v h = rw (le-ltb v firstBoolean h)
 
 -- a reading gives positions within each variable's own
 pub positions-within : (ρ : Reading) → Within (positions ρ)
-positions-within ρ v = go (isRange v)
+positions-within ρ v = go (isRange v) refl
   where
     bool : (b : Bool) → cond b 0 1 ≤ 1
     bool true = omega arith
     bool false = omega arith
 
-    go : (b : Bool) → cond b (position (ρ .place v)) (cond (ρ .holds v) 0 1) ≤ cond b top 1
-    go true = position-top (ρ .place v) (ρ .within v)
-    go false = bool (ρ .holds v)
+    go : (b : Bool) → isRange v ≡ b → cond b (position (ρ .place v)) (cond (ρ .holds v) 0 1) ≤ cond b top 1
+    go true e = position-top (ρ .place v) (ρ .within v (ltb-true v firstBoolean e))
+    go false e = bool (ρ .holds v)
 
 -- and each such assignment comes from a reading
 pub reading : (α : Assignment) → Within α → Reading
-reading α w = record { place = λ v. cond (isRange v) (placeAt (α v)) (pos 0); holds = λ v. cond (isRange v) true (ltb (α v) 1); within = λ v. go v (isRange v) (w v) }
-  where
-    go : (v : ℕ) (b : Bool) → α v ≤ cond b top 1 → Place (cond b (placeAt (α v)) (pos 0))
-    go v true h = place-placeAt (α v) h
-    go v false h = (leZ-yes tt, leZ-yes tt)
+reading α w = record { place = λ v. placeAt (α v); holds = λ v. cond (isRange v) true (ltb (α v) 1); within = λ v l. place-placeAt (α v) (rw (range-top v l) at (w v)) }
 
 module _ (α : Assignment) (w : Within α) (v : ℕ) where
-  pub place-reading : (reading α w) .place v ≡ cond (isRange v) (placeAt (α v)) (pos 0)
+  pub place-reading : (reading α w) .place v ≡ placeAt (α v)
   unfolding reading
   place-reading = refl
 
@@ -59,7 +54,7 @@ positions-reading α w = fun-ext (λ v. go v (isRange v) (w v))
     bool (suc zero) h = refl
     bool (suc (suc n)) h = absurd (omega arith)
 
-    go : (v : ℕ) (b : Bool) → α v ≤ cond b top 1 → cond b (position (cond b (placeAt (α v)) (pos 0))) (cond (cond b true (ltb (α v) 1)) 0 1) ≡ α v
+    go : (v : ℕ) (b : Bool) → α v ≤ cond b top 1 → cond b (position (placeAt (α v))) (cond (cond b true (ltb (α v) 1)) 0 1) ≡ α v
     go v true h = position-placeAt (α v) h
     go v false h = bool (α v) h
 
@@ -69,11 +64,11 @@ readings-cover-assignments P h α w = rw (positions-reading α w) at (h (reading
 
 -- the same reading with a range variable at another place
 abbrev pub atPlace : Reading → ℕ → (p : ℤ) → Place p → Reading
-atPlace ρ v p ok = record { place = λ w. cond (eqb w v) p (ρ .place w); holds = ρ .holds; within = λ w. placed (eqb w v) w }
+atPlace ρ v p ok = record { place = λ w. cond (eqb w v) p (ρ .place w); holds = ρ .holds; within = λ w l. placed (eqb w v) w l }
   where
-    placed : (b : Bool) (w : ℕ) → Place (cond b p (ρ .place w))
-    placed true w = ok
-    placed false w = ρ .within w
+    placed : (b : Bool) (w : ℕ) → w < firstBoolean → Place (cond b p (ρ .place w))
+    placed true w l = ok
+    placed false w l = ρ .within w l
 
 module _ (ρ : Reading) (v : ℕ) (p : ℤ) (ok : Place p) where
   pub place-atPlace : (atPlace ρ v p ok) .place v ≡ p

@@ -7,7 +7,8 @@ use native.Mathlib.Omega.{arith}
 use lib.Dec.{leb, ltb}
 use lib.ListN.{length}
 use borrow.Author.Tests.{leb-true, le-leb, lt-leb, ltb-true, ltb-false}
-use Rattle.diagram.specs.Pieces.{Pieces, last, cut, select, count, Each, Rising, Reduced}
+use Rattle.diagram.specs.Pieces.{Pieces, last, cut, select}
+use Rattle.diagram.specs.Shape.{count, Each, Rising, Reduced}
 use Rattle.diagram.specs.Ordered.{Run, holds, holders, runs}
 use Rattle.diagram.proofs.Piecewise.{select-left, select-right, after-cut}
 use Rattle.diagram.proofs.Counting.{remove, length-remove, mem-remove, remove-mem}

@@ -2,12 +2,8 @@
 use mathlib.Core.List.{[], _∷_}
 use Prim.Native.Nat.{ℕ, _+_, _≤_, _<_}
 use lib.ListN.{length}
-use Rattle.diagram.specs.Pieces.{count}
-use Rattle.diagram.specs.Table.{Table, at}
-
--- "The 64 edges a node."
-abbrev pub mostEdges : ℕ
-mostEdges = 64
+use Rattle.diagram.specs.Shape.{count}
+use Rattle.diagram.specs.Table.{mostEdges, Table, at}
 
 -- The number of edges of the node that a ref stands for.
 abbrev pub width : Table → ℕ → ℕ

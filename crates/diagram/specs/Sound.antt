@@ -1,12 +1,11 @@
--- When a table is sound, and when one continues another. Document 01, "A sound table", as far as it speaks of nodes: rooms, the
+-- When a table is sound. Document 01, "A sound table", as far as it speaks of nodes: rooms, the
 -- sixty-four edges, packing, zeroed tails and the index belong to lent tables. Assumes nothing.
 use mathlib.Core.Path.{_≡_}
 use mathlib.Core.List.{[], _∷_}
 use Prim.Native.Nat.{ℕ, suc, _≤_, _<_}
 use lib.ListN.{length}
-use Rattle.ids.specs.Id.{sign, ref}
-use Rattle.ids.specs.Index.{KnownTo}
-use Rattle.diagram.specs.Pieces.{first, count, Each, Reduced}
+use Rattle.ids.specs.Id.{sign, ref, KnownTo}
+use Rattle.diagram.specs.Shape.{first, count, Each, Reduced}
 use Rattle.diagram.specs.Table.{variables, topOf, Node, Table, at}
 
 -- An id of the table: a terminal or the id of one of its nodes.
@@ -36,8 +35,3 @@ pub record Extends (t : Table) (nd : Node) : Type 0 where
 abbrev pub Sound : Table → Type 0
 Sound [] = Unit {0}
 Sound (nd ∷ t) = Extends t nd × Sound t
-
--- "A table that continues this one": nodes may be added, the old ones stay with their numbers.
-pub data Continues (t : Table) : Table → Type 0 where
-  same : Continues t t
-  more : {s : Table} (nd : Node) → Continues t s → Continues t (nd ∷ s)

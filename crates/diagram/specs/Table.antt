@@ -24,6 +24,10 @@ isRange v = ltb v firstBoolean
 abbrev pub topOf : ℕ → ℕ
 topOf v = cond (isRange v) top 1
 
+-- "The 64 edges a node."
+abbrev pub mostEdges : ℕ
+mostEdges = 64
+
 -- A node: its variable, and the id of a child at each position of that variable.
 pub record Node : Type 0 where
   pub var : ℕ
@@ -32,6 +36,11 @@ pub record Node : Type 0 where
 -- A table: its nodes, newest first. So the number of the node in front is the number of nodes behind it.
 abbrev pub Table : Type 0
 Table = List Node
+
+-- "A table that continues this one": nodes may be added, the old ones stay with their numbers.
+pub data Continues (t : Table) : Table → Type 0 where
+  same : Continues t t
+  more : {s : Table} (nd : Node) → Continues t s → Continues t (nd ∷ s)
 
 -- The node that a ref stands for: n + 1 node number n, and 0 the terminal, as one that is later in the order than each variable.
 unfoldable pub at : Table → ℕ → Node

@@ -2,7 +2,8 @@
 use mathlib.Core.Path.{_≡_, refl, sym, _∙_, ap}
 use mathlib.Core.Bool.{Bool, true, false}
 use Prim.Native.Nat.{ℕ, _<_}
-use Rattle.diagram.specs.Pieces.{Pieces, last, cut, first, Rising}
+use Rattle.diagram.specs.Pieces.{Pieces, last, cut}
+use Rattle.diagram.specs.Shape.{first, Rising}
 use Rattle.diagram.specs.Table.{Table}
 use Rattle.algebra.specs.Overlay.{below, beside, above, overlay}
 use Rattle.algebra.specs.Disjointness.{every, disjoint}

@@ -6,7 +6,7 @@ use mathlib.Core.Logic.{inr}
 use Prim.Native.Nat.{ℕ, _+_, _*_, _≤_}
 use native.Mathlib.Omega.{arith}
 use lib.ListN.{length, replicate, length-replicate}
-use Rattle.ids.specs.Index.{KnownTo}
+use Rattle.ids.specs.Id.{KnownTo}
 use Rattle.diagram.specs.Table.{variables}
 use Rattle.algebra.specs.Disjointness.{is-disjoint}
 use Rattle.table.specs.Layout.{mostNodes, Store}

@@ -7,7 +7,8 @@ use Prim.Native.Nat.{ℕ, _*_, _≤_}
 use lib.Dec.{eqb}
 use lib.ListN.{length}
 use Rattle.ids.specs.Id.{TRUE, FALSE, flip}
-use Rattle.diagram.specs.Pieces.{Pieces, Each, Rising}
+use Rattle.diagram.specs.Pieces.{Pieces}
+use Rattle.diagram.specs.Shape.{Each, Rising}
 use Rattle.diagram.specs.Table.{firstBoolean, topOf, Table, Assignment, value}
 use Rattle.algebra.specs.Overlay.{overlay}
 use Rattle.algebra.specs.Disjointness.{every, disjoint}

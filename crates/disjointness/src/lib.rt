@@ -2,8 +2,7 @@
 // that were found to exclude each other can be noted in a memo: without it the work may double with each variable.
 ghost use mathlib.Core.Path.{_≡_};
 ghost use mathlib.Core.Bool.{true, false};
-ghost use Rattle.ids.specs.Id.{sign};
-ghost use Rattle.ids.specs.Index.{KnownTo};
+ghost use Rattle.ids.specs.Id.{sign, KnownTo};
 ghost use Rattle.diagram.specs.Table.{firstBoolean};
 ghost use Rattle.algebra.specs.Disjointness.{disjoint, is-disjoint};
 ghost use Rattle.views.specs.Seeing.{usedIn, Readable, seen};

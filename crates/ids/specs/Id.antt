@@ -1,5 +1,5 @@
--- Ids as numbers. Document 01, "Readings and conditions". Assumes nothing.
-use Prim.Native.Nat.{ℕ, zero, suc, _+_, _-_, _*_, _/_, _%_}
+-- Ids as numbers. Document 01, "Readings and conditions", and row 3 of "When the kernel is told no". Assumes nothing.
+use Prim.Native.Nat.{ℕ, zero, suc, _+_, _-_, _*_, _/_, _%_, _≤_}
 
 -- "TRUE is id 0 and FALSE is id 1."
 abbrev pub TRUE : ℕ
@@ -28,3 +28,7 @@ flip id = id + 1 - 2 * (id % 2)
 abbrev pub under : ℕ → ℕ → ℕ
 under zero child = child
 under (suc s) child = flip child
+
+-- "An id is no terminal and names no used node" is refused: one that is known, where this many nodes are used.
+abbrev pub KnownTo : ℕ → ℕ → Type 0
+KnownTo used id = ref id ≤ used

@@ -6,8 +6,7 @@ use Prim.Native.Nat.{ℕ, _≤_, _<_}
 use native.Mathlib.Omega.{arith}
 use lib.Dec.{ltb, leb}
 use borrow.Author.Tests.{ltb-true, ltb-false}
-use Rattle.ids.specs.Id.{ref}
-use Rattle.ids.specs.Index.{KnownTo}
+use Rattle.ids.specs.Id.{ref, KnownTo}
 use Rattle.table.specs.Deciding.{Decides, holds, fails}
 use Rattle.table.proofs.Laws.{lt-or-le}
 use Rattle.table.proofs.Hearing.{known-when-true, unknown-when-false}

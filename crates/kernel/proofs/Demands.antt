@@ -8,13 +8,12 @@ use native.Mathlib.Omega.{arith}
 use lib.ListN.{length}
 use lib.IntN.{ℤ}
 use lib.Signed.{leZ-yes}
-use Rattle.ids.specs.Id.{ref}
-use Rattle.ids.specs.Index.{KnownTo}
+use Rattle.ids.specs.Id.{ref, KnownTo}
 use Rattle.ranges.specs.Line.{Key, lowest}
 use Rattle.ranges.specs.Bounding.{inside, Empty}
 use Rattle.ranges.specs.Comparing.{compares}
-use Rattle.diagram.specs.Table.{firstBoolean, Table}
-use Rattle.diagram.specs.Sound.{Known, Sound, Continues, same}
+use Rattle.diagram.specs.Table.{firstBoolean, Table, Continues, same}
+use Rattle.diagram.specs.Sound.{Known, Sound}
 use Rattle.diagram.specs.Room.{Fits}
 use Rattle.diagram.specs.Reading.{Reading, positions, says, everywhere, switched}
 use Rattle.diagram.specs.Ordered.{Diagram, Ordered, Tells, Reached, edges, diagramOf}

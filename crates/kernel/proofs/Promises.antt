@@ -8,8 +8,7 @@ use native.Mathlib.Omega.{arith}
 use lib.ListN.{length, replicate}
 use lib.IntN.{ℤ, pos}
 use lib.Signed.{leZ-yes}
-use Rattle.ids.specs.Id.{FALSE}
-use Rattle.ids.specs.Index.{KnownTo}
+use Rattle.ids.specs.Id.{FALSE, KnownTo}
 use Rattle.ranges.specs.Line.{Key}
 use Rattle.ranges.specs.Bounding.{Keyed, inside, Empty}
 use Rattle.ranges.specs.Comparing.{compares}
@@ -17,8 +16,8 @@ use Rattle.ranges.specs.declared.bounds.Bound.{Bound}
 use Rattle.ranges.specs.declared.bounds.Bound.the-variants.{Excludes}
 use Rattle.ranges.specs.declared.bounds.Comparison.{Comparison}
 use Rattle.ranges.proofs.Nearest.{empty-exactly}
-use Rattle.diagram.specs.Table.{firstBoolean, variables, Table}
-use Rattle.diagram.specs.Sound.{Known, Sound, same}
+use Rattle.diagram.specs.Table.{firstBoolean, variables, Table, same}
+use Rattle.diagram.specs.Sound.{Known, Sound}
 use Rattle.diagram.specs.Reading.{Reading, says, switched}
 use Rattle.algebra.specs.Conditions.{from-range, comparison, from-bool}
 use Rattle.algebra.specs.Conjunction.{and, or}

@@ -1,26 +1,26 @@
--- The calls that may add nodes, as one kind of thing, so that a demand on all of them is one sentence (`proofs/Demands`). Assumes nothing.
+-- The calls that may add nodes, a row for each: what it is lent and given, what its operation makes, and what document 01 asks of its answer.
+-- The contract (`Makes`) and the promises are stated once, over the rows. Document 01, steps 3, 5, 7, 8 and 9, and "When the kernel is told
+-- no", rows 1, 3 and 4. Assumes nothing.
 use mathlib.Core.Path.{_≡_}
 use mathlib.Core.Bool.{Bool, _&&_, _||_}
 use mathlib.Core.List.{List}
-use mathlib.Core.Logic.{_⊎_}
 use Prim.Native.Nat.{ℕ, _≤_, _<_}
 use lib.ListN.{length}
 use lib.IntN.{ℤ}
-use Rattle.ids.specs.Index.{KnownTo}
+use Rattle.ids.specs.Id.{KnownTo}
 use Rattle.ranges.specs.Line.{Key}
-use Rattle.ranges.specs.Bounding.{inside, Empty}
+use Rattle.ranges.specs.Bounding.{Keyed, inside, Empty}
 use Rattle.ranges.specs.Comparing.{compares}
 use Rattle.ranges.specs.declared.bounds.Bound.{Bound}
 use Rattle.ranges.specs.declared.bounds.Comparison.{Comparison}
 use Rattle.diagram.specs.Table.{firstBoolean, variables, Table}
 use Rattle.diagram.specs.Reading.{Reading, says, switched}
-use Rattle.algebra.specs.Answering.{Right}
+use Rattle.algebra.specs.Conditions.{from-range, comparison, from-bool}
+use Rattle.algebra.specs.Conjunction.{and, or}
+use Rattle.algebra.specs.Changing.{restrict, narrow, widen}
 use Rattle.algebra.specs.Narrowing.{AtNearest, EmptyAnswer}
-use Rattle.table.specs.Layout.{Store}
-use Rattle.table.specs.Lent.{SoundLent}
-use Rattle.table.specs.Held.{held}
-use Rattle.table.specs.Told.{done, Allowed}
-use Rattle.kernel.specs.Makes.{noRoom, MemoOutcomes, BothKnown, FromRange, Compares, FromBool, Lending, Ands, Ors, Restricts, Narrows, Widens}
+use Rattle.table.specs.Layout.{room, MemoLengths, Store}
+use Rattle.table.specs.Told.{Allowed}
 
 -- What is asked: a condition, or an operation on ids.
 pub data Call : Type 0 where
@@ -33,78 +33,62 @@ pub data Call : Type 0 where
   narrowing-of : (id v : ℕ) (lower upper : Bound) → Call
   widening-of : (id v : ℕ) (lower upper : Bound) → Call
 
--- What comes of it, by the contract of its call. A condition is lent no memo.
-abbrev pub Comes : Call → Store → List ℕ → List ℕ → MemoOutcomes
-Comes (range-of v lower upper) st index memo number to st′ index′ memo′ = FromRange st index v lower upper number to st′ index′
-Comes (comparison-of v op key) st index memo number to st′ index′ memo′ = Compares st index v op key number to st′ index′
-Comes (boolean-of v) st index memo number to st′ index′ memo′ = FromBool st index v number to st′ index′
-Comes (both-of x y) st index memo number to st′ index′ memo′ = Ands st index memo x y number to st′ index′ memo′
-Comes (either-of x y) st index memo number to st′ index′ memo′ = Ors st index memo x y number to st′ index′ memo′
-Comes (restriction-of id v value) st index memo number to st′ index′ memo′ = Restricts st index memo id v value number to st′ index′ memo′
-Comes (narrowing-of id v lower upper) st index memo number to st′ index′ memo′ = Narrows st index memo id v lower upper number to st′ index′ memo′
-Comes (widening-of id v lower upper) st index memo number to st′ index′ memo′ = Widens st index memo id v lower upper number to st′ index′ memo′
+-- The row of a call.
+pub record Row : Type 1 where
+  -- the lengths that it is lent, of a table, an index and a memo, are allowed
+  pub lent : Store → List ℕ → List ℕ → Type 0
+  -- the numbers of its bounds are keys, as every number is that a call can be given there: no outcome refuses one
+  pub keys : Type 0
+  -- its ids are known, where this many nodes are used
+  pub known : ℕ → Type 0
+  -- its variable is of the kind that is asked
+  pub kind : Type 0
+  -- the table and the id that its operation makes from a table
+  pub make : Table → Table × ℕ
+  -- m, which says of each reading yes or no, is what the answer has to say, from this table
+  pub asks : Table → (m : Reading → Bool) → Type 0
 
--- What the checks 1, 3 and 4 ask: that the lengths are allowed,
-abbrev pub LentFor : Call → Store → List ℕ → List ℕ → Type 0
-LentFor (range-of v lower upper) st index memo = Allowed st index
-LentFor (comparison-of v op key) st index memo = Allowed st index
-LentFor (boolean-of v) st index memo = Allowed st index
-LentFor (both-of x y) st index memo = Lending st index memo
-LentFor (either-of x y) st index memo = Lending st index memo
-LentFor (restriction-of id v value) st index memo = Lending st index memo
-LentFor (narrowing-of id v lower upper) st index memo = Lending st index memo
-LentFor (widening-of id v lower upper) st index memo = Lending st index memo
+-- A condition is given no id and is lent no memo.
+abbrev condition : Type 0 → Type 0 → (Table → Table × ℕ) → (Table → (Reading → Bool) → Type 0) → Row
+condition keys kind make asks = record { lent = λ st index memo. Allowed st index; keys = keys; known = λ u. Unit {0}; kind = kind; make = make; asks = asks }
 
--- that its ids are known, where u nodes are used,
-abbrev pub KnownFor : Call → ℕ → Type 0
-KnownFor (range-of v lower upper) u = Unit {0}
-KnownFor (comparison-of v op key) u = Unit {0}
-KnownFor (boolean-of v) u = Unit {0}
-KnownFor (both-of x y) u = BothKnown x y u
-KnownFor (either-of x y) u = BothKnown x y u
-KnownFor (restriction-of id v value) u = KnownTo u id
-KnownFor (narrowing-of id v lower upper) u = KnownTo u id
-KnownFor (widening-of id v lower upper) u = KnownTo u id
+-- An operation on ids is lent a memo.
+abbrev pub Lending : Store → List ℕ → List ℕ → Type 0
+Lending st index memo = Allowed st index × MemoLengths (length memo) (room (st .nodes))
 
--- and that its variable is of the kind that is asked.
-abbrev pub KindFor : Call → Type 0
-KindFor (range-of v lower upper) = v < firstBoolean
-KindFor (comparison-of v op key) = v < firstBoolean
-KindFor (boolean-of v) = (firstBoolean ≤ v) × (v < variables)
-KindFor (both-of x y) = Unit {0}
-KindFor (either-of x y) = Unit {0}
-KindFor (restriction-of id v value) = v < variables
-KindFor (narrowing-of id v lower upper) = v < firstBoolean
-KindFor (widening-of id v lower upper) = v < firstBoolean
+abbrev operation : Type 0 → (ℕ → Type 0) → Type 0 → (Table → Table × ℕ) → (Table → (Reading → Bool) → Type 0) → Row
+operation keys known kind make asks = record { lent = Lending; keys = keys; known = known; kind = kind; make = make; asks = asks }
 
--- What document 01 asks of the answer from the table t, where m says of each reading yes or no: steps 3, 5, 7, 8 and 9.
-abbrev pub Asks : Call → Table → (Reading → Bool) → Type 0
-Asks (range-of v lower upper) t m = (ρ : Reading) → m ρ ≡ inside lower upper (ρ .place v)
-Asks (comparison-of v op key) t m = (ρ : Reading) → m ρ ≡ compares op key (ρ .place v)
-Asks (boolean-of v) t m = (ρ : Reading) → m ρ ≡ ρ .holds v
-Asks (both-of x y) t m = (ρ : Reading) → m ρ ≡ (says t ρ x && says t ρ y)
-Asks (either-of x y) t m = (ρ : Reading) → m ρ ≡ (says t ρ x || says t ρ y)
--- "of one boolean to a value"; "naming a range variable returns the id unchanged"
-Asks (restriction-of id v value) t m =
-    (firstBoolean ≤ v → (ρ : Reading) → m ρ ≡ says t (switched ρ v value) id) × (v < firstBoolean → (ρ : Reading) → m ρ ≡ says t ρ id)
--- "the old answer at the nearest place inside the bounds", and what is asked with empty bounds
-Asks (narrowing-of id v lower upper) t m =
-    ((ρ σ : Reading) → AtNearest v lower upper ρ σ → m ρ ≡ says t σ id) × (Empty lower upper → EmptyAnswer t v id m)
-Asks (widening-of id v lower upper) t m = (ρ : Reading) → m ρ ≡ (says t ρ id && inside lower upper (ρ .place v))
+-- The numbers of two bounds are keys; two ids are known.
+abbrev pub BothKeyed : Bound → Bound → Type 0
+BothKeyed lower upper = Keyed lower × Keyed upper
 
--- Lent words of the same lengths as these, sound, that hold a table that continues the one of u records here, with an id that says m.
-pub record LentAnswer (m : Reading → Bool) (st : Store) (index : List ℕ) (u : ℕ) : Type 0 where
-  pub words : Store
-  pub links : List ℕ
-  pub long : length (words .nodes) ≡ length (st .nodes)
-  pub wide : length (words .children) ≡ length (st .children)
-  pub deep : length (words .cuts) ≡ length (st .cuts)
-  pub indexed : length links ≡ length index
-  pub used : ℕ
-  pub sound : SoundLent words links used
-  pub id : ℕ
-  pub right : Right (held st u) m (held words used, id)
+abbrev pub BothKnown : ℕ → ℕ → ℕ → Type 0
+BothKnown x y u = KnownTo u x × KnownTo u y
 
--- The number is 0 where there are such words, and 6 where there are none.
-abbrev pub DoneOrNoLentRoom : (Reading → Bool) → Store → List ℕ → ℕ → ℕ → Type 0
-DoneOrNoLentRoom m st index u k = ((k ≡ done) × LentAnswer m st index u) ⊎ ((k ≡ noRoom) × (LentAnswer m st index u → ⊥))
+-- The answer has to say what f says of the table.
+abbrev Says : (Table → Reading → Bool) → Table → (Reading → Bool) → Type 0
+Says f t m = (ρ : Reading) → m ρ ≡ f t ρ
+
+abbrev pub row : Call → Row
+-- "A range by two bounds", which "ask[s] a range variable": inside.
+row (range-of v lower upper) = condition (BothKeyed lower upper) (v < firstBoolean) (λ t. from-range t v lower upper) (Says (λ t ρ. inside lower upper (ρ .place v)))
+-- "Six comparisons with a key", which are range conditions too.
+row (comparison-of v op key) = condition (Key key) (v < firstBoolean) (λ t. comparison t v op key) (Says (λ t ρ. compares op key (ρ .place v)))
+-- "A boolean condition asks a boolean one"; "64 or more" is no variable.
+row (boolean-of v) = condition (Unit {0}) ((firstBoolean ≤ v) × (v < variables)) (λ t. from-bool t v) (Says (λ t ρ. ρ .holds v))
+-- Conjunction, and "`or` by negation", name no variable.
+row (both-of x y) = operation (Unit {0}) (BothKnown x y) (Unit {0}) (λ t. and t x y) (Says (λ t ρ. says t ρ x && says t ρ y))
+row (either-of x y) = operation (Unit {0}) (BothKnown x y) (Unit {0}) (λ t. or t x y) (Says (λ t ρ. says t ρ x || says t ρ y))
+-- "Restriction of one boolean to a value. Naming a range variable returns the id unchanged."
+row (restriction-of id v value) =
+    operation (Unit {0}) (λ u. KnownTo u id) (v < variables) (λ t. restrict t v value id)
+    (λ t m. (firstBoolean ≤ v → Says (λ s ρ. says s (switched ρ v value) id) t m) × (v < firstBoolean → Says (λ s ρ. says s ρ id) t m))
+-- "Narrowing and widening ask a range variable": "the old answer at the nearest place inside the bounds", and what is asked with empty
+-- bounds; "old answer and inside the bounds".
+row (narrowing-of id v lower upper) =
+    operation (BothKeyed lower upper) (λ u. KnownTo u id) (v < firstBoolean) (λ t. narrow t v lower upper id)
+    (λ t m. ((ρ σ : Reading) → AtNearest v lower upper ρ σ → m ρ ≡ says t σ id) × (Empty lower upper → EmptyAnswer t v id m))
+row (widening-of id v lower upper) =
+    operation (BothKeyed lower upper) (λ u. KnownTo u id) (v < firstBoolean) (λ t. widen t v lower upper id)
+    (Says (λ t ρ. says t ρ id && inside lower upper (ρ .place v)))

@@ -4,7 +4,7 @@ use mathlib.Core.Logic.{⊎-elim}
 use Prim.Native.Nat.{ℕ, zero, suc, _+_, _-_, _≤_, _<_}
 use native.Mathlib.Omega.{arith}
 use Rattle.ranges.specs.Line.{top}
-use Rattle.diagram.specs.Pieces.{Reduced, run}
+use Rattle.diagram.specs.Shape.{Reduced, run}
 use Rattle.diagram.specs.Table.{firstBoolean, topOf}
 use Rattle.diagram.proofs.Numbered.{first-run, run-shift}
 use Rattle.diagram.proofs.Readings.{range-top, bool-top}

@@ -7,7 +7,7 @@ use native.Mathlib.Omega.{arith}
 use lib.ListN.{length}
 use Rattle.ids.specs.Id.{sign, under}
 use Rattle.ids.specs.declared.NodeId.{NodeId}
-use Rattle.diagram.specs.Pieces.{run, Each, Reduced}
+use Rattle.diagram.specs.Shape.{Each, Reduced, run}
 use Rattle.diagram.specs.Table.{topOf, Table, Node}
 use Rattle.diagram.specs.Sound.{Child}
 use Rattle.diagram.specs.Cofactor.{map}

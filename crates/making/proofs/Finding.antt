@@ -5,7 +5,7 @@ use mathlib.Core.List.{List, _∷_}
 use Prim.Native.Nat.{ℕ, zero, suc, _-_, _≤_, _<_}
 use native.Mathlib.Omega.{arith}
 use lib.ListN.{length}
-use Rattle.diagram.specs.Pieces.{Reduced}
+use Rattle.diagram.specs.Shape.{Reduced}
 use Rattle.diagram.specs.Table.{topOf, Node, Table, at}
 use Rattle.diagram.specs.Sound.{Sound}
 use Rattle.diagram.proofs.Facts.{at-inj}

@@ -7,8 +7,7 @@ use native.Mathlib.Omega.{arith}
 use native.Mathlib.Nat.{eq-or-lt-of-le}
 use lib.ListN.{length}
 use lib.IntN.{ℤ}
-use Rattle.diagram.specs.Sound.{Continues, same, more}
-use Rattle.diagram.specs.Table.{Table}
+use Rattle.diagram.specs.Table.{Table, Continues, same, more}
 use Rattle.table.specs.Layout.{Lengths, Store}
 use Rattle.table.specs.Held.{nodeAt, held}
 use Rattle.table.proofs.Promises.{counts-what-is-held, fits-its-room}

@@ -4,7 +4,8 @@ use mathlib.Core.Logic.{_⊎_, inl, inr, ⊎-elim}
 use Prim.Native.Nat.{ℕ, zero, suc, _+_, _-_, _*_, _/_, _≤_, _<_}
 use native.Mathlib.Omega.{arith}
 use Rattle.ids.specs.Id.{under}
-use Rattle.diagram.specs.Pieces.{Pieces, last, cut, count, Reduced, run}
+use Rattle.diagram.specs.Pieces.{Pieces, last, cut}
+use Rattle.diagram.specs.Shape.{count, Reduced, run}
 use Rattle.diagram.specs.Table.{topOf, Node}
 use Rattle.diagram.proofs.Numbered.{count-run, run-shift, map-run}
 use Rattle.table.specs.Layout.{varAt, countAt, firstAt, kidAt, cutAt, room, start, cutPosition, Store}

@@ -5,8 +5,9 @@ use native.Mathlib.Omega.{arith}
 use native.Mathlib.Numerals.{add-one}
 use lib.ListN.{length}
 use Rattle.ids.specs.declared.NodeId.{NodeId}
-use Rattle.diagram.specs.Pieces.{Pieces, last, cut, run}
-use Rattle.diagram.specs.Room.{mostEdges}
+use Rattle.diagram.specs.Pieces.{Pieces, last, cut}
+use Rattle.diagram.specs.Shape.{run}
+use Rattle.diagram.specs.Table.{mostEdges}
 use Rattle.algebra.specs.Overlay.{merge}
 use Rattle.merging.proofs.Gluing.{Glue, Put, glue-none, glue-step, run-is-merge}
 use Rattle.making.specs.declared.edges.Edge.{Edge}

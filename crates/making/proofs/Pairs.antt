@@ -12,9 +12,9 @@ use lib.Dec.{ltb}
 use borrow.Author.Tests.{le-ltb}
 use Rattle.ids.specs.Id.{sign, under}
 use Rattle.ids.specs.declared.NodeId.{NodeId}
-use Rattle.diagram.specs.Pieces.{last, cut, run, Each, Reduced}
-use Rattle.diagram.specs.Table.{variables, firstBoolean, isRange, topOf, Table}
-use Rattle.diagram.specs.Room.{mostEdges}
+use Rattle.diagram.specs.Pieces.{last, cut}
+use Rattle.diagram.specs.Shape.{Each, Reduced, run}
+use Rattle.diagram.specs.Table.{variables, firstBoolean, isRange, topOf, Table, mostEdges}
 use Rattle.diagram.specs.Sound.{Child}
 use Rattle.algebra.specs.Making.{settle}
 use Rattle.algebra.specs.Overlay.{merge}

@@ -6,7 +6,7 @@ use native.Mathlib.Omega.{arith}
 use native.Mathlib.Decide.{ℕ-discrete}
 use lib.ListN.{length, set, length-set}
 use lib.Seq.{getD-set-same, getD-set-other}
-use Rattle.diagram.specs.Room.{mostEdges}
+use Rattle.diagram.specs.Table.{mostEdges}
 use Rattle.table.proofs.Laws.{lt-or-le}
 use Rattle.merging.proofs.Gluing.{Slot, next, again, Keeps, Put}
 use Rattle.making.specs.declared.edges.Edge.{Edge}

@@ -13,7 +13,7 @@ use Rattle.ids.proofs.Signs.{ref-under, under-inj, sign-under}
 use Rattle.ranges.specs.Line.{top}
 use Rattle.ranges.specs.Ending.{placeAt}
 use Rattle.ranges.proofs.Positions.{place-placeAt, position-placeAt}
-use Rattle.diagram.specs.Pieces.{Each, Reduced}
+use Rattle.diagram.specs.Shape.{Each, Reduced}
 use Rattle.diagram.specs.Table.{variables, firstBoolean, isRange, topOf, Node, at}
 use Rattle.diagram.specs.Sound.{Child}
 use Rattle.diagram.proofs.Numbered.{each-run}

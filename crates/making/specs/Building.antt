@@ -8,10 +8,10 @@ use lib.ListN.{length, getD, set, replicate}
 use Rattle.ids.specs.Id.{under}
 use Rattle.ids.specs.declared.NodeId.{NodeId}
 use Rattle.chains.specs.Lexical.{key}
-use Rattle.diagram.specs.Pieces.{Pieces, run}
-use Rattle.diagram.specs.Table.{isRange, Node}
+use Rattle.diagram.specs.Pieces.{Pieces}
+use Rattle.diagram.specs.Shape.{run}
+use Rattle.diagram.specs.Table.{isRange, Node, mostEdges}
 use Rattle.diagram.specs.Cofactor.{map}
-use Rattle.diagram.specs.Room.{mostEdges}
 use Rattle.table.specs.Indexed.{mix}
 use Rattle.making.specs.declared.edges.Edge.{Edge}
 use Rattle.making.specs.declared.edges.Edges as built

@@ -2,7 +2,7 @@
 ghost use mathlib.Core.Path.{_≡_};
 ghost use Prim.Native.Nat.{_+_, _-_, _≤_};
 ghost use lib.ListN.{length};
-ghost use Rattle.diagram.specs.Room.{mostEdges};
+ghost use Rattle.diagram.specs.Table.{mostEdges};
 ghost use Rattle.making.specs.Storing.{EdgesBlank};
 ghost use Rattle.making.specs.Outcome.{Lent, TakenBack};
 ghost use Rattle.table.specs.Layout.{store};

@@ -7,7 +7,8 @@ use lib.Dec.{leb}
 use Rattle.ranges.specs.Line.{position}
 use Rattle.ranges.specs.Ending.{firstPlace, lastPlace, empty}
 use Rattle.ranges.specs.declared.bounds.Bound.{Bound}
-use Rattle.diagram.specs.Pieces.{Pieces, last, cut, first, Reduced}
+use Rattle.diagram.specs.Pieces.{Pieces, last, cut}
+use Rattle.diagram.specs.Shape.{first, Reduced}
 use Rattle.diagram.specs.Table.{variables, isRange, topOf, Table}
 use Rattle.diagram.proofs.Piecewise.{reduced-down}
 use Rattle.algebra.specs.Overlay.{above, merge}

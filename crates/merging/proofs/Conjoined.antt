@@ -6,9 +6,10 @@ use Prim.Native.Nat.{ℕ, suc, _+_, _≤_, _<_}
 use native.Mathlib.Omega.{arith}
 use borrow.Author.Tests.{le-ltb}
 use Rattle.ids.specs.Id.{ref}
-use Rattle.diagram.specs.Pieces.{Pieces, last, cut, first, count, Rising}
-use Rattle.diagram.specs.Table.{variables, firstBoolean, topOf, Table, at, Assignment, value}
-use Rattle.diagram.specs.Sound.{Known, Child, Sound, Continues}
+use Rattle.diagram.specs.Pieces.{Pieces, last, cut}
+use Rattle.diagram.specs.Shape.{first, count, Rising}
+use Rattle.diagram.specs.Table.{variables, firstBoolean, topOf, Table, at, Assignment, value, Continues}
+use Rattle.diagram.specs.Sound.{Known, Child, Sound}
 use Rattle.diagram.specs.Reading.{positions}
 use Rattle.diagram.proofs.Continuing.{continues-length, continues-value, continues-child}
 use Rattle.algebra.specs.Overlay.{overlay}

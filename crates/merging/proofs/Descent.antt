@@ -7,9 +7,9 @@ use native.Mathlib.Omega.{arith}
 use borrow.Author.Tests.{lt-ltb, le-ltb}
 use Rattle.ids.specs.Id.{ref}
 use Rattle.diagram.specs.Pieces.{Pieces}
-use Rattle.diagram.specs.Table.{variables, isRange, Table, at, Assignment, value}
+use Rattle.diagram.specs.Table.{variables, isRange, Table, at, Assignment, value, Continues, same}
 use Rattle.diagram.specs.Cofactor.{edgesOf}
-use Rattle.diagram.specs.Sound.{Known, Child, Sound, Continues, same}
+use Rattle.diagram.specs.Sound.{Known, Child, Sound}
 use Rattle.diagram.specs.Reading.{positions}
 use Rattle.diagram.proofs.Continuing.{continues-length, continues-value, continues-child}
 use Rattle.diagram.proofs.Cofactors.{edges-are-kids}

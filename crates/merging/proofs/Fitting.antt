@@ -6,11 +6,12 @@ use Prim.Native.Nat.{ℕ, zero, suc, _+_, _*_, _≤_, _<_}
 use native.Mathlib.Omega.{arith}
 use lib.ListN.{length}
 use Rattle.ids.specs.Id.{under}
-use Rattle.diagram.specs.Pieces.{Pieces, last, cut, first, count, Each}
-use Rattle.diagram.specs.Table.{Node, Table, at, Assignment}
+use Rattle.diagram.specs.Pieces.{Pieces, last, cut}
+use Rattle.diagram.specs.Shape.{first, count, Each}
+use Rattle.diagram.specs.Table.{Node, Table, at, Assignment, Continues, same, more, mostEdges}
 use Rattle.diagram.specs.Cofactor.{map}
-use Rattle.diagram.specs.Sound.{Sound, Continues, same, more}
-use Rattle.diagram.specs.Room.{mostEdges, edgeTotal, Fits}
+use Rattle.diagram.specs.Sound.{Sound}
+use Rattle.diagram.specs.Room.{edgeTotal, Fits}
 use Rattle.diagram.proofs.Lookup.{at-new}
 use Rattle.diagram.proofs.Continuing.{continues-trans, continues-length, continues-at}
 use Rattle.diagram.proofs.Cofactors.{count-map}

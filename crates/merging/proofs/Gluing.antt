@@ -4,7 +4,8 @@ use mathlib.Core.Path.{_≡_, refl, sym, _∙_, ap}
 use Prim.Native.Nat.{ℕ, zero, suc, _+_, _-_, _<_}
 use native.Mathlib.Omega.{arith}
 use native.Mathlib.Decide.{ℕ-discrete}
-use Rattle.diagram.specs.Pieces.{Pieces, last, cut, first, count, run}
+use Rattle.diagram.specs.Pieces.{Pieces, last, cut}
+use Rattle.diagram.specs.Shape.{first, count, run}
 use Rattle.diagram.proofs.Piecewise.{count-pos}
 use Rattle.diagram.proofs.Numbered.{first-run}
 use Rattle.algebra.specs.Overlay.{join, merge}

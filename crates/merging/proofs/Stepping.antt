@@ -3,7 +3,8 @@ use mathlib.Core.Path.{_≡_, refl, sym, _∙_, ap}
 use mathlib.Core.Bool.{Bool, true, false, cond}
 use Prim.Native.Nat.{ℕ, _+_, _-_, _<_}
 use lib.Dec.{ltb}
-use Rattle.diagram.specs.Pieces.{Pieces, last, cut, first, count, Rising, run}
+use Rattle.diagram.specs.Pieces.{Pieces, last, cut}
+use Rattle.diagram.specs.Shape.{first, count, Rising, run}
 use Rattle.diagram.specs.Table.{Table}
 use Rattle.algebra.specs.Overlay.{below, beside, above, overlay, merge}
 use Rattle.algebra.specs.Conjunction.{walk}

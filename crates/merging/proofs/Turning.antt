@@ -3,9 +3,10 @@ use mathlib.Core.Path.{_≡_, refl, sym, _∙_, ap, ap₂, subst}
 use mathlib.Core.Bool.{Bool, true, false, cond}
 use Prim.Native.Nat.{ℕ, zero, suc, _+_, _-_, _≤_}
 use native.Mathlib.Omega.{arith}
-use Rattle.diagram.specs.Pieces.{Pieces, last, cut, Each, Rising, run}
-use Rattle.diagram.specs.Table.{Table, Assignment}
-use Rattle.diagram.specs.Sound.{Child, Sound, Continues, same}
+use Rattle.diagram.specs.Pieces.{Pieces, last, cut}
+use Rattle.diagram.specs.Shape.{Each, Rising, run}
+use Rattle.diagram.specs.Table.{Table, Assignment, Continues, same}
+use Rattle.diagram.specs.Sound.{Child, Sound}
 use Rattle.diagram.specs.Room.{Fits}
 use Rattle.diagram.proofs.Continuing.{continues-trans, continues-child}
 use Rattle.algebra.specs.Conjunction.{walk, walkBack, walkIn, create-over}

@@ -11,7 +11,8 @@ use borrow.Author.Tests.{lt-ltb, le-ltb, ltb-true}
 use lib.Dec.{ltb}
 use lib.ListN.{length}
 use lib.IntN.{ℤ, pos, negsuc}
-use Rattle.diagram.specs.Pieces.{Pieces, last, cut, first, count, Reduced, Each, run}
+use Rattle.diagram.specs.Pieces.{Pieces, last, cut}
+use Rattle.diagram.specs.Shape.{first, count, Reduced, Each, run}
 use Rattle.diagram.specs.Table.{Node, Table, at, topOf}
 use Rattle.diagram.specs.Sound.{Child, Extends, Sound}
 use Rattle.table.specs.Layout.{varAt, countAt, firstAt, kidAt, cutAt, cutPosition, Store}

@@ -6,9 +6,10 @@ use native.Mathlib.Omega.{arith}
 use lib.ListN.{length, getD, replicate}
 use lib.IntN.{ℤ, pos}
 use Rattle.chains.proofs.Unique.{sorted-none}
-use Rattle.diagram.specs.Pieces.{count}
+use Rattle.diagram.specs.Shape.{count}
 use Rattle.diagram.specs.Sound.{Sound}
-use Rattle.diagram.specs.Room.{mostEdges, width, edgeTotal, Fits}
+use Rattle.diagram.specs.Room.{width, edgeTotal, Fits}
+use Rattle.diagram.specs.Table.{mostEdges}
 use Rattle.table.specs.Layout.{room, start, Store, store}
 use Rattle.table.specs.Lent.{Rules, SoundLent}
 use Rattle.table.specs.Held.{held}

@@ -14,7 +14,7 @@ use Rattle.table.specs.Deciding.{Decides}
 use Rattle.table.specs.Layout.{varAt, countAt, firstAt, kidAt, cutAt, room, start, cutPosition, Store}
 use Rattle.table.specs.Indexed.{hashTo, hashAt, bucketAt, precedes}
 use Rattle.table.specs.Lent.{KidsStand, Rules, SoundRecords, SoundLent}
-use Rattle.ids.specs.Index.{KnownTo}
+use Rattle.ids.specs.Id.{KnownTo}
 use Rattle.table.specs.Held.{edgesFrom, edgesAt}
 use Rattle.table.specs.Told.{bit}
 

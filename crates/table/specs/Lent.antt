@@ -8,8 +8,7 @@ use lib.IntN.{ℤ, pos}
 use lib.Signed.{_<ℤ_}
 use Rattle.ids.specs.Id.{sign, ref}
 use Rattle.ranges.specs.Line.{Cut}
-use Rattle.diagram.specs.Table.{variables, firstBoolean}
-use Rattle.diagram.specs.Room.{mostEdges}
+use Rattle.diagram.specs.Table.{variables, firstBoolean, mostEdges}
 use Rattle.table.specs.Layout.{varAt, countAt, firstAt, spareAt, kidAt, cutAt, room, start, Store}
 use Rattle.table.specs.Indexed.{Indexed}
 

@@ -1,17 +1,15 @@
 -- What each call answers, for every input: a case for each row of document 01, "When the kernel is told no", by its number. Assumes
 -- nothing.
 use mathlib.Core.Path.{_≡_}
-use mathlib.Core.Bool.{Bool, true, false, cond}
+use mathlib.Core.Bool.{Bool, false}
 use mathlib.Core.List.{List}
 use Prim.Native.Nat.{ℕ, _-_, _/_, _%_, _<_, _^_}
 use lib.Dec.{eqb}
 use lib.ListN.{length, replicate}
 use lib.IntN.{ℤ, pos}
-use lib.Signed.{leZ-yes}
-use borrow.Author.Tests.{ltb-true}
-use Rattle.ids.specs.Index.{KnownTo}
+use Rattle.ids.specs.Id.{KnownTo}
 use Rattle.ranges.specs.Line.{Place}
-use Rattle.diagram.specs.Table.{firstBoolean, isRange}
+use Rattle.diagram.specs.Table.{firstBoolean}
 use Rattle.diagram.specs.Reading.{Reading, says}
 use Rattle.table.specs.Layout.{cutAt, start, Lengths, Store, store}
 use Rattle.table.specs.Lent.{SoundLent}
@@ -61,27 +59,23 @@ abbrev pub bit : ℕ → ℕ → ℕ
 bit w k = w / 2 ^ k % 2
 
 abbrev pub readingOf : (places : List ℤ) → ℕ → Places places → Reading
-readingOf places bools ok = record {
-  place = λ v. cond (isRange v) (cutAt places v) (pos 0);
-  holds = λ v. eqb (bit bools (v - firstBoolean)) 1;
-  within = λ v. placed v (isRange v) (λ e. ok v (ltb-true v firstBoolean e));
-}
-  where
-    placed : (v : ℕ) (b : Bool) → (b ≡ true → Place (cutAt places v)) → Place (cond b (cutAt places v) (pos 0))
-    placed v true f = f (λ i. true)
-    placed v false f = (leZ-yes tt, leZ-yes tt)
+readingOf places bools ok = record { place = λ v. cutAt places v; holds = λ v. eqb (bit bools (v - firstBoolean)) 1; within = ok }
 
--- What a reading is lent: a table of allowed lengths, and 32 places.
-abbrev pub AllowedReading : Store → List ℕ → List ℤ → Type 0
-AllowedReading st index places = Allowed st index × (length places ≡ firstBoolean)
+-- A call that answers yes or no and changes nothing: its number, and its answer. "A yes/no call returns no beside any refusal." It is given
+--   lent    that the lengths are allowed,
+--   known   that the ids are known where this many nodes are used,
+--   right   that what it reads is right,
+--   answer  the answer where this many nodes are used.
+module _ (lent : Type 0) (known : ℕ → Type 0) (right : Type 0) (answer : ℕ → right → Bool) (st : Store) (index : List ℕ) where
+  pub data Replies : ℕ → Bool → Type 0 where
+    reply-1 : (lent → ⊥) → Replies wrongRoom false
+    reply-2 : lent → Unsound st index → Replies notSound false
+    reply-3 : lent → (u : ℕ) → SoundLent st index u → (known u → ⊥) → Replies unknownId false
+    -- "a place lies outside .."
+    reply-5 : lent → (u : ℕ) → SoundLent st index u → known u → (right → ⊥) → Replies beyondPlaces false
+    reply-0 : lent → (u : ℕ) → SoundLent st index u → known u → (ok : right) → Replies done (answer u ok)
 
--- Reading an id: the number, and the answer beside 0. It changes nothing.
-pub data Hears (st : Store) (index : List ℕ) (places : List ℤ) (bools id : ℕ) : ℕ → Bool → Type 0 where
-  heard-1 : (AllowedReading st index places → ⊥) → Hears st index places bools id wrongRoom false
-  heard-2 : AllowedReading st index places → Unsound st index → Hears st index places bools id notSound false
-  heard-3 : AllowedReading st index places → (u : ℕ) → SoundLent st index u → (KnownTo u id → ⊥)
-      → Hears st index places bools id unknownId false
-  heard-5 : AllowedReading st index places → (u : ℕ) → SoundLent st index u → KnownTo u id → (Places places → ⊥)
-      → Hears st index places bools id beyondPlaces false
-  heard-0 : AllowedReading st index places → (u : ℕ) → SoundLent st index u → KnownTo u id → (ok : Places places)
-      → Hears st index places bools id done (says (held st u) (readingOf places bools ok) id)
+-- Reading an id is lent a table and 32 places.
+abbrev pub Hears : Store → List ℕ → List ℤ → ℕ → ℕ → ℕ → Bool → Type 0
+Hears st index places bools id =
+    Replies (Allowed st index × (length places ≡ firstBoolean)) (λ u. KnownTo u id) (Places places) (λ u ok. says (held st u) (readingOf places bools ok) id) st index

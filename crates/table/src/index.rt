@@ -4,7 +4,7 @@ ghost use Prim.Native.Nat.{ℕ, _+_, _*_, _/_, _<_, _≤_};
 ghost use lib.ListN.{length};
 ghost use Rattle.ranges.specs.Line.{Cut};
 ghost use Rattle.chains.specs.Lexical.{less};
-ghost use Rattle.diagram.specs.Room.{mostEdges};
+ghost use Rattle.diagram.specs.Table.{mostEdges};
 ghost use Rattle.table.specs.Layout.{mostNodes, cutAt, store};
 ghost use Rattle.table.specs.Indexed.{mix, hashTo, hashAt, precedes};
 ghost use Rattle.table.specs.Lent.{Rules};

@@ -11,9 +11,9 @@ use borrow.Author.Tests.{lt-ltb, le-ltb, eqb-true, eqb-false, eq-eqb, ne-eqb}
 use lib.Dec.{eqb}
 use lib.ListN.{length}
 use lib.IntN.{ℤ}
-use Rattle.ids.specs.Id.{sign, ref, under}
-use Rattle.ids.specs.Index.{KnownTo}
-use Rattle.diagram.specs.Pieces.{last, cut, count, first, Each, Rising, run}
+use Rattle.ids.specs.Id.{sign, ref, under, KnownTo}
+use Rattle.diagram.specs.Pieces.{last, cut}
+use Rattle.diagram.specs.Shape.{count, first, Each, Rising, run}
 use Rattle.diagram.specs.Table.{variables, firstBoolean, topOf, Node, Table, at}
 use Rattle.diagram.specs.Cofactor.{map, edgesOf}
 use Rattle.diagram.specs.Sound.{Child}

@@ -6,12 +6,11 @@ use Prim.Native.Nat.{ℕ, zero, suc, _+_, _-_, _*_, _≤_, _<_}
 use lib.Dec.{eqb}
 use lib.ListN.{length}
 use lib.IntN.{ℤ}
-use Rattle.ids.specs.Id.{sign, ref, under}
-use Rattle.ids.specs.Index.{KnownTo}
-use Rattle.diagram.specs.Pieces.{Pieces, run}
-use Rattle.diagram.specs.Table.{variables, isRange, Table, at}
+use Rattle.ids.specs.Id.{sign, ref, under, KnownTo}
+use Rattle.diagram.specs.Pieces.{Pieces}
+use Rattle.diagram.specs.Shape.{run}
+use Rattle.diagram.specs.Table.{variables, isRange, Table, at, mostEdges}
 use Rattle.diagram.specs.Cofactor.{edgesOf}
-use Rattle.diagram.specs.Room.{mostEdges}
 use Rattle.diagram.specs.Sound.{Sound}
 use Rattle.table.specs.Layout.{mostNodes, varAt, countAt, firstAt, kidAt, cutAt, cutPosition, room, start, Store}
 use Rattle.table.specs.Lent.{Rules}

@@ -6,11 +6,10 @@ use Prim.Native.Nat.{ℕ, _*_, _/_, _≤_, _<_}
 use native.Mathlib.Omega.{arith}
 use lib.ListN.{length}
 use lib.IntN.{ℤ}
-use Rattle.ids.specs.Id.{ref}
-use Rattle.ids.specs.Index.{KnownTo}
+use Rattle.ids.specs.Id.{ref, KnownTo}
 use Rattle.ids.specs.declared.NodeId.{NodeId}
-use Rattle.diagram.specs.Table.{variables, Table}
-use Rattle.diagram.specs.Sound.{Sound, Continues}
+use Rattle.diagram.specs.Table.{variables, Table, Continues}
+use Rattle.diagram.specs.Sound.{Sound}
 use Rattle.diagram.specs.Room.{Fits}
 use Rattle.table.specs.Layout.{mostNodes, room, Store}
 use Rattle.table.proofs.Laws.{not-false-and-true}

@@ -7,9 +7,10 @@ use Prim.Native.Nat.{ℕ, suc, _-_, _≤_, _<_}
 use native.Mathlib.Omega.{arith}
 use native.Mathlib.Nat.{eq-or-lt-of-le}
 use lib.IntN.{ℤ}
-use Rattle.diagram.specs.Pieces.{Pieces, last, cut, Each, Rising}
-use Rattle.diagram.specs.Table.{firstBoolean, topOf, Table}
-use Rattle.diagram.specs.Sound.{Child, Sound, Continues, same}
+use Rattle.diagram.specs.Pieces.{Pieces, last, cut}
+use Rattle.diagram.specs.Shape.{Each, Rising}
+use Rattle.diagram.specs.Table.{firstBoolean, topOf, Table, Continues, same}
+use Rattle.diagram.specs.Sound.{Child, Sound}
 use Rattle.diagram.proofs.Continuing.{continues-child, continues-trans}
 use Rattle.algebra.specs.Overlay.{overlay}
 use Rattle.algebra.specs.Making.{create-node}

@@ -12,10 +12,11 @@ use lib.Seq.{getD-set-same, getD-set-other}
 use lib.IntN.{ℤ}
 use borrow.Author.Tests.{lt-ltb, ltb-true, ltb-false}
 use Rattle.ids.specs.declared.NodeId.{NodeId}
-use Rattle.diagram.specs.Pieces.{Pieces, last, cut, first, Each, Rising, Reduced, run}
-use Rattle.diagram.specs.Table.{firstBoolean, topOf, Table}
-use Rattle.diagram.specs.Room.{mostEdges, Fits}
-use Rattle.diagram.specs.Sound.{Child, same}
+use Rattle.diagram.specs.Pieces.{Pieces, last, cut}
+use Rattle.diagram.specs.Shape.{first, Each, Rising, Reduced, run}
+use Rattle.diagram.specs.Table.{firstBoolean, topOf, Table, same, mostEdges}
+use Rattle.diagram.specs.Room.{Fits}
+use Rattle.diagram.specs.Sound.{Child}
 use Rattle.diagram.proofs.Continuing.{continues-child}
 use Rattle.algebra.specs.Overlay.{overlay, merge}
 use Rattle.algebra.specs.Making.{settle}

@@ -1,8 +1,8 @@
 -- An operation that walks down pairs of children. Assumes nothing.
 use mathlib.Core.Bool.{Bool}
 use Prim.Native.Nat.{ℕ, suc, _+_, _<_}
-use Rattle.diagram.specs.Table.{variables, Table, Assignment}
-use Rattle.diagram.specs.Sound.{Child, Sound, Continues}
+use Rattle.diagram.specs.Table.{variables, Table, Assignment, Continues}
+use Rattle.diagram.specs.Sound.{Child, Sound}
 use Rattle.algebra.proofs.Made.{Made}
 use Rattle.walks.specs.Walking.{Note}
 use Rattle.walks.proofs.Composing.{Grows}

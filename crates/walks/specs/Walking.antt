@@ -7,9 +7,9 @@ use lib.Dec.{ltb}
 use lib.ListN.{length, replicate}
 use lib.IntN.{ℤ}
 use Rattle.ids.specs.Id.{TRUE}
-use Rattle.diagram.specs.Pieces.{Pieces, Each, Rising}
-use Rattle.diagram.specs.Table.{variables, topOf, Table}
-use Rattle.diagram.specs.Room.{mostEdges}
+use Rattle.diagram.specs.Pieces.{Pieces}
+use Rattle.diagram.specs.Shape.{Each, Rising}
+use Rattle.diagram.specs.Table.{variables, topOf, Table, mostEdges}
 use Rattle.diagram.specs.Sound.{Child}
 use Rattle.algebra.specs.Overlay.{overlay}
 use Rattle.algebra.specs.Making.{create-node}

@@ -9,7 +9,7 @@ use borrow.Author.Tests.{not-false, not-true}
 use borrow.Fn.Kinds.{In}
 use borrow.Fn.PlainCycle.{Measures, is, falls, and}
 use Rattle.views.proofs.Sights.{record-inside, call-left}
-use Rattle.ids.specs.Index.{KnownTo}
+use Rattle.ids.specs.Id.{KnownTo}
 use Rattle.memo.proofs.Recalled.{hit-was-noted, in-either-order}
 use Rattle.walks.proofs.Composing.{ready-recalls, ready-readable, stepped-adds-nothing, stepped-with-note, cuts-same-length, index-same-length, ready-after-step, stepped-trans, stepped-then-outcome, stepped-equal-want}
 use Rattle.conjunction.proofs.Asking.{entry-grown, entry-ordered, entry-as-given, conj-walk, opened-is, recalled-is, entry-of, left-node, right-node, sides, both-is, note-asked}

@@ -3,10 +3,9 @@ use Prim.Native.Nat.{ℕ, _≤_, _/_}
 use mathlib.Core.Path.{_≡_, refl, ap, sym, _∙_, subst}
 use native.Mathlib.Omega.{arith}
 use borrow.Author.Needs.{needs}
-use Rattle.ids.specs.Id.{sign}
+use Rattle.ids.specs.Id.{sign, KnownTo}
 use Rattle.ids.proofs.Signs.{ref-under}
 use Rattle.table.specs.Held.{held}
-use Rattle.ids.specs.Index.{KnownTo}
 use Rattle.table.specs.Checking.{spots, Legible}
 use Rattle.table.proofs.Once.{records-once}
 use Rattle.diagram.specs.Table.{value}
