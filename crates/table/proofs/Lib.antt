@@ -11,3 +11,4 @@ pub mod Once
 pub mod Zeroed
 pub mod Hearing
 pub mod Promises
+pub mod OneIndex
