@@ -14,12 +14,12 @@ use Rattle.ranges.specs.declared.bounds.Comparison.{Comparison}
 use Rattle.diagram.specs.Table.{Table}
 use Rattle.algebra.specs.Conditions.{from-range, comparison, from-bool}
 use Rattle.table.specs.Deciding.{Decides}
-use Rattle.table.specs.Told.{done, Checks, checked-1, checked-2, checked-0}
+use Rattle.table.specs.Told.{done, Allowed, Checks, checked-1, checked-2, checked-0}
 use Rattle.table.proofs.Laws.{decided-true, decided-false}
 use Rattle.making.specs.declared.nodes.Used.{Used}
 use Rattle.making.specs.declared.nodes.Made.{Made}
 use Rattle.making.specs.Outcome.{Lent, Creates, tableOf}
-use Rattle.kernel.specs.Makes.{wrongVariable, noRoom, made-4, Conditions}
+use Rattle.kernel.specs.Makes.{wrongVariable, noRoom, Makes, made-4}
 use Rattle.kernel.specs.Admitting.{Admits, not-lent, not-kind, admitted}
 use Rattle.kernel.proofs.Handing.{check-refuses, outcome-told}
 use Rattle.table.specs.Layout.{Store}
@@ -46,7 +46,7 @@ module _ {st : Store} {index : List ℕ} where
 module _ (kind : Type 0) (want : Table → Table × ℕ) (st : Store) (index : List ℕ) where
   -- rows 1, 2 and 4
   pub condition-refused : {b : Bool} {k n id : ℕ} {h : Used} → Decides kind b → Admits st index b k h → (k ≡ done → ⊥) → (n ≡ k) × (id ≡ FALSE)
-      → Conditions st index kind want n id st index
+      → Makes (Allowed st index) (λ u. Unit {0}) kind want st index [] n id st index []
   condition-refused d (not-lent b h c f) x q = rw (q .0, q .1) (check-refuses _ _ kind want st index [] (λ a. a) (λ a. a) c f)
   condition-refused d (not-kind h l) x q = rw (q .0, q .1) (made-4 (l .allowed) (h .nodes) (l .sound) tt (decided-false d refl))
   condition-refused d (admitted h l) x q = absurd (x refl)
@@ -55,7 +55,7 @@ module _ (kind : Type 0) (want : Table → Table × ℕ) (st : Store) (index : L
   module _ {st′ : Store} {index′ : List ℕ} where
     pub condition-answered : {h : Used} {made : Table × ℕ} {r : Made} {n id : ℕ} → Lent h st index × kind
         → Creates h made r st index st′ index′ → made ≡ want (tableOf h st) → (n ≡ cond (r .ok) done noRoom) × (id ≡ cond (r .ok) (r .id .0) FALSE)
-        → Conditions st index kind want n id st′ index′
+        → Makes (Allowed st index) (λ u. Unit {0}) kind want st index [] n id st′ index′ []
     condition-answered (l, p) o e q = outcome-told _ _ kind want st index [] (l .allowed) l tt p o refl e q
 
 -- The code hands a variable on as a wide number, and a key as 32 bits.

@@ -20,7 +20,8 @@ use Rattle.making.specs.declared.nodes.Made.{Made}
 use Rattle.making.specs.Outcome.{Lent, tableOf}
 use Rattle.memo.specs.Recalling.{Cleared}
 use Rattle.walks.specs.Walking.{Worked}
-use Rattle.kernel.specs.Makes.{wrongVariable, noRoom, made-1, made-3, made-4, BothKnown, WithMemo}
+use Rattle.kernel.specs.Calls.{Lending, BothKnown}
+use Rattle.kernel.specs.Makes.{wrongVariable, noRoom, Makes, made-1, made-3, made-4}
 use Rattle.kernel.specs.Admitting.{Admits, not-lent, admitted, AdmitsIds, ids-not-long, ids-not-lent, ids-not-known, ids-not-kind, ids-admitted}
 use Rattle.kernel.proofs.Handing.{check-refuses, outcome-told}
 
@@ -60,7 +61,7 @@ cleared memo z = z ∙ ap (λ (i : ℕ). replicate i 0) (sym (cleared-long memo 
 module _ (known : ℕ → Type 0) (kind : Type 0) (want : Table → Table × ℕ) (st : Store) (index memo : List ℕ) (x y : ℕ)
     (to : (u : ℕ) → BothKnown x y u → known u) (back : (u : ℕ) → known u → BothKnown x y u) where
   -- rows 1 to 4
-  pub ids-refused : {b : Bool} {k n id : ℕ} {h : Used} → Decides kind b → AdmitsIds st index (length memo) x y b k h → (k ≡ done → ⊥) → (n ≡ k) × (id ≡ FALSE) → WithMemo st index memo known kind want n id st index memo
+  pub ids-refused : {b : Bool} {k n id : ℕ} {h : Used} → Decides kind b → AdmitsIds st index (length memo) x y b k h → (k ≡ done → ⊥) → (n ≡ k) × (id ≡ FALSE) → Makes (Lending st index memo) known kind want st index memo n id st index memo
   ids-refused d (ids-not-long b h f) g q = rw (q .0, q .1) (made-1 (λ l. f (l .1)))
   ids-refused d (ids-not-lent b h e c f) g q = rw (q .0, q .1) (check-refuses _ known kind want st index memo (λ a. (a, e)) (λ l. l .0) c f)
   ids-refused d (ids-not-known b h e l f) g q = rw (q .0, q .1) (made-3 (l .allowed, e) (h .nodes) (l .sound) (λ a. f (back (h .nodes) a)))
@@ -70,7 +71,7 @@ module _ (known : ℕ → Type 0) (kind : Type 0) (want : Table → Table × ℕ
   -- rows 6 and 0, from what the operation leaves: its memo was cleared before it, and is cleared after it
   pub ids-answered : {b : Bool} {k n id : ℕ} {h : Used} {made : Table × ℕ} {r : Made} {st′ : Store} {index′ zeros memo₁ memo′ : List ℕ} → Decides kind b
       → AdmitsIds st index (length memo) x y b k h → k ≡ done → zeros ≡ replicate (length memo) 0 → Worked h made r st index zeros st′ index′ memo₁ → memo′ ≡ replicate (length memo₁) 0
-      → made ≡ want (tableOf h st) → (n ≡ cond (r .ok) done noRoom) × (id ≡ cond (r .ok) (r .id .0) FALSE) → WithMemo st index memo known kind want n id st′ index′ memo′
+      → made ≡ want (tableOf h st) → (n ≡ cond (r .ok) done noRoom) × (id ≡ cond (r .ok) (r .id .0) FALSE) → Makes (Lending st index memo) known kind want st index memo n id st′ index′ memo′
   ids-answered {h = h} d a g z w f e q =
       let l = ids-lent d a g in
       outcome-told _ known kind want st index memo (l .0 .allowed, l .1) (l .0) (to (h .nodes) (l .2)) (l .3) (w .creates) (f ∙ ap (λ (i : ℕ). replicate i 0) (w .long ∙ cleared-long memo z)) e q

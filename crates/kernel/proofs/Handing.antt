@@ -8,7 +8,6 @@ use lib.IntN.{ℤ}
 use Rattle.ids.specs.Id.{FALSE}
 use Rattle.diagram.specs.Table.{Table}
 use Rattle.diagram.specs.Room.{Fits}
-use Rattle.algebra.specs.Disjointness.{is-disjoint}
 use Rattle.table.specs.Layout.{room, Store}
 use Rattle.table.specs.Lent.{SoundLent}
 use Rattle.table.specs.Held.{held}
@@ -17,7 +16,7 @@ use Rattle.making.specs.declared.nodes.Used.{Used}
 use Rattle.making.specs.declared.nodes.Made.{Made}
 use Rattle.making.specs.Outcome.{Lent, Outcome, Creates, tableOf}
 use Rattle.making.proofs.Taken.{cuts-as-long, index-as-long}
-use Rattle.kernel.specs.Makes.{noRoom, Leaves, Makes, made-1, made-2, made-6, made-0, BothKnown, Disjoints, disjoint-1, disjoint-2, disjoint-0}
+use Rattle.kernel.specs.Makes.{noRoom, Leaves, Makes, made-1, made-2, made-6, made-0}
 
 -- what a call leaves, from a table that is sound again in the same room
 pub leaves-it : {t : Table} (st : Store) (index : List ℕ) (st′ : Store) (index′ : List ℕ) (u : ℕ) → Allowed st index → Allowed st′ index′
@@ -62,14 +61,3 @@ module _ (lent : Type 0) (known : ℕ → Type 0) (kind : Type 0) (want : Table 
         go false y q =
             let w = c .untouched y in
             rw (q .0, q .1) (no-room-it l (t .sound) a v (λ f. o .full y (rw e f)) (w .same) (w .index-same) z)
-
--- the same of disjointness
-module _ (st : Store) (index : List ℕ) (x y : ℕ) where
-  pub check-says-no : {k u e : ℕ} → Checks st index k u e → (k ≡ done → ⊥) → Disjoints st index x y k false
-  check-says-no (checked-1 f) n = disjoint-1 f
-  check-says-no (checked-2 a f) n = disjoint-2 a f
-  check-says-no (checked-0 a u s) n = absurd (n refl)
-
-  pub disjoint-it : {u : ℕ} {b : Bool} → Allowed st index → SoundLent st index u → BothKnown x y u → b ≡ is-disjoint (held st u) x y
-      → Disjoints st index x y done b
-  disjoint-it {u} a s k e = rw e (disjoint-0 a u s k)

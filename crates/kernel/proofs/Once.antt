@@ -7,13 +7,13 @@ use lib.ListN.{length}
 use lib.IntN.{ℤ}
 use Rattle.diagram.specs.Table.{Table}
 use Rattle.diagram.specs.Room.{Fits}
-use Rattle.algebra.specs.Disjointness.{is-disjoint}
 use Rattle.table.specs.Layout.{room, Store}
 use Rattle.table.specs.Lent.{SoundLent}
 use Rattle.table.specs.Held.{held}
 use Rattle.table.proofs.Once.{sound-once}
+use Rattle.table.proofs.Hearing.{replies-once}
 use Rattle.table.proofs.Promises.{fits-its-room, same-table-same-words}
-use Rattle.kernel.specs.Makes.{Leaves, Makes, made-1, made-2, made-3, made-4, made-6, made-0, BothKnown, Disjoints, disjoint-1, disjoint-2, disjoint-3, disjoint-0}
+use Rattle.kernel.specs.Makes.{Leaves, Makes, made-1, made-2, made-3, made-4, made-6, made-0, Disjoints}
 
 -- what a call leaves in its room fits it
 pub leaves-fits : {t : Table} {st : Store} {index : List ℕ} {st′ : Store} {index′ : List ℕ}
@@ -80,24 +80,6 @@ module _ (lent : Type 0) (known : ℕ → Type 0) (kind : Type 0) (want : Table 
   makes-once (made-0 l u s k v _ _ h) (made-6 l′ u′ s′ k′ v′ f′) = absurd (f′ (subst Room (one s s′) (leaves-fits h)))
   makes-once (made-0 l u s k v _ _ h) (made-0 l′ u′ s′ k′ v′ _ _ h′) = let w = same-done (one s s′) h h′ in (refl, ap (λ (m : ℕ). (wanted m) .1) (one s s′), w .0, w .1, refl)
 
-module _ (st : Store) (index : List ℕ) (x y : ℕ) where
-  abbrev Told : ℕ → Bool → Type 0
-  Told k b = Disjoints st index x y k b
-
-  pub disjoints-once : {k k′ : ℕ} {b b′ : Bool} → Told k b → Told k′ b′ → (k ≡ k′) × (b ≡ b′)
-  disjoints-once (disjoint-1 f) (disjoint-1 f′) = (refl, refl)
-  disjoints-once (disjoint-1 f) (disjoint-2 l′ f′) = absurd (f l′)
-  disjoints-once (disjoint-1 f) (disjoint-3 l′ u′ s′ f′) = absurd (f l′)
-  disjoints-once (disjoint-1 f) (disjoint-0 l′ u′ s′ k′) = absurd (f l′)
-  disjoints-once (disjoint-2 l f) (disjoint-1 f′) = absurd (f′ l)
-  disjoints-once (disjoint-2 l f) (disjoint-2 l′ f′) = (refl, refl)
-  disjoints-once (disjoint-2 l f) (disjoint-3 l′ u′ s′ f′) = absurd (f u′ s′)
-  disjoints-once (disjoint-2 l f) (disjoint-0 l′ u′ s′ k′) = absurd (f u′ s′)
-  disjoints-once (disjoint-3 l u s f) (disjoint-1 f′) = absurd (f′ l)
-  disjoints-once (disjoint-3 l u s f) (disjoint-2 l′ f′) = absurd (f′ u s)
-  disjoints-once (disjoint-3 l u s f) (disjoint-3 l′ u′ s′ f′) = (refl, refl)
-  disjoints-once (disjoint-3 l u s f) (disjoint-0 l′ u′ s′ k′) = absurd (f (subst (BothKnown x y) (sound-once st index u′ u s′ s) k′))
-  disjoints-once (disjoint-0 l u s k) (disjoint-1 f′) = absurd (f′ l)
-  disjoints-once (disjoint-0 l u s k) (disjoint-2 l′ f′) = absurd (f′ u s)
-  disjoints-once (disjoint-0 l u s k) (disjoint-3 l′ u′ s′ f′) = absurd (f′ (subst (BothKnown x y) (sound-once st index u u′ s s′) k))
-  disjoints-once (disjoint-0 l u s k) (disjoint-0 l′ u′ s′ k′) = (refl, ap (λ (m : ℕ). is-disjoint (held st m) x y) (sound-once st index u u′ s s′))
+-- and of disjointness
+pub disjoints-once : (st : Store) (index : List ℕ) (x y : ℕ) {k k′ : ℕ} {b b′ : Bool} → Disjoints st index x y k b → Disjoints st index x y k′ b′ → (k ≡ k′) × (b ≡ b′)
+disjoints-once st index x y = replies-once st index _ _ _ _ (λ u p p′. refl)

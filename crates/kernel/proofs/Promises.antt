@@ -1,255 +1,208 @@
--- What a reader of the demands looks for of the public calls: what the numbers 0 and 6 mean. Assumes nothing.
+-- What a reader of the demands looks for of the public calls, on the words that are lent: what each number means, what a refusal leaves, what
+-- the check promises of ids. Assumes nothing.
 use mathlib.Core.Path.{_≡_, refl, sym, _∙_, subst}
-use mathlib.Core.Bool.{Bool, true, false, _&&_, _||_}
-use mathlib.Core.Logic.{_↔_, _⊎_, inl, inr, ⊎-elim}
+use mathlib.Core.Bool.{Bool, true, false, _&&_}
 use mathlib.Core.List.{List}
+use mathlib.Core.Logic.{_↔_, _⊎_, inl, inr}
 use Prim.Native.Nat.{ℕ, _≤_, _<_}
 use native.Mathlib.Omega.{arith}
 use lib.ListN.{length, replicate}
-use lib.IntN.{ℤ, pos}
-use lib.Signed.{leZ-yes}
-use Rattle.ids.specs.Id.{FALSE, KnownTo}
-use Rattle.ranges.specs.Line.{Key}
-use Rattle.ranges.specs.Bounding.{Keyed, inside, Empty}
-use Rattle.ranges.specs.Comparing.{compares}
-use Rattle.ranges.specs.declared.bounds.Bound.{Bound}
-use Rattle.ranges.specs.declared.bounds.Bound.the-variants.{Excludes}
-use Rattle.ranges.specs.declared.bounds.Comparison.{Comparison}
-use Rattle.ranges.proofs.Nearest.{empty-exactly}
-use Rattle.diagram.specs.Table.{firstBoolean, variables, Table, same}
-use Rattle.diagram.specs.Sound.{Known, Sound}
-use Rattle.diagram.specs.Reading.{Reading, says, switched}
-use Rattle.algebra.specs.Conditions.{from-range, comparison, from-bool}
-use Rattle.algebra.specs.Conjunction.{and, or}
-use Rattle.algebra.specs.Changing.{restrict, narrow, widen}
-use Rattle.algebra.specs.Answering.{Answers}
-use Rattle.algebra.specs.Narrowing.{AtNearest, Steady, EmptyAnswer}
-use Rattle.algebra.proofs.Emptied.{Changing, not-steady, steady-or-changing}
-use Rattle.algebra.proofs.Promises.{from-range-answers, comparison-answers, from-bool-answers, and-answers, or-answers, disjoint-exactly, restrict-answers, restrict-range, narrow-answers, narrow-empty-answers, widen-answers, fits-exactly}
+use lib.IntN.{ℤ}
+use Rattle.ids.specs.Id.{FALSE, ref, KnownTo}
+use Rattle.diagram.specs.Table.{Table, Continues}
+use Rattle.diagram.specs.Sound.{Known}
+use Rattle.diagram.specs.Room.{Fits}
+use Rattle.diagram.specs.Reading.{Reading, positions, says}
+use Rattle.diagram.specs.Ordered.{Diagram, Ordered, Tells, Reached, edges, diagramOf}
+use Rattle.diagram.proofs.Continuing.{continues-length}
+use Rattle.diagram.proofs.Promises.{old-ids-say-the-same, equal-when-they-agree, no-smaller-diagram}
+use Rattle.algebra.specs.Answering.{Answers, Answerable}
+use Rattle.algebra.proofs.Promises.{disjoint-exactly, fits-exactly}
 use Rattle.table.specs.Layout.{room, MemoLengths, Store}
 use Rattle.table.specs.Lent.{SoundLent}
 use Rattle.table.specs.Held.{held}
-use Rattle.table.specs.Told.{done, Allowed}
+use Rattle.table.specs.Told.{done, Checks, reply-1, reply-2, reply-3, reply-5, reply-0}
 use Rattle.table.proofs.Once.{sound-once}
-use Rattle.table.proofs.Promises.{holds-a-sound-table, counts-what-is-held}
-use Rattle.kernel.specs.Makes.{Makes, made-1, made-2, made-3, made-4, made-6, made-0, BothKeyed, BothKnown, FromRange, Compares, FromBool, Lending, WithMemo, Ands, Ors, Restricts, Narrows, Widens, Disjoints, disjoint-1, disjoint-2, disjoint-3, disjoint-0}
-use Rattle.kernel.specs.Meaning.{Answered, HasRoom, DoneOrNoRoom}
+use Rattle.table.proofs.Promises.{holds-a-sound-table, fits-its-room, counts-what-is-held}
+use Rattle.kernel.specs.Calls.{Call, row, Lending}
+use Rattle.kernel.specs.Makes.{Leaves, Makes, made-1, made-2, made-3, made-4, made-6, made-0, Comes, Disjoints}
+use Rattle.kernel.specs.Meaning.{Answered, LentAnswer, DoneOrNoRoom}
+use Rattle.kernel.proofs.Admitted.{check-lends}
+use Rattle.kernel.proofs.Asked.{makes-what-is-asked, something-is-asked, one-thing-is-asked}
 use Rattle.kernel.proofs.Once.{leaves-fits, makes-once}
 
--- Of an operation that is right: from every sound table that knows its ids it answers with m, which says of each reading yes or no.
-module _ (lent : Type 0) (known : ℕ → Type 0) (kind : Type 0) (want : Table → Table × ℕ) (m : Table → Reading → Bool)
-    (right : (t : Table) → Sound t → known (length t) → kind → Answers t (m t) (want t)) (st : Store) (index memo : List ℕ) where
+-- what a sound lent table knows, the table that it holds knows
+module _ {st : Store} {index : List ℕ} {u : ℕ} (s : SoundLent st index u) where
+  counted : length (held st u) ≡ u
+  counted = (counts-what-is-held st index u s) .0
+
+  into-held : (id : ℕ) → KnownTo u id → Known (held st u) id
+  into-held id k = omega (arith, counted)
+
+-- A lent table that the check takes: it tells 0, with u nodes and e edges used.
+module _ {st : Store} {index : List ℕ} {u e : ℕ} (c : Checks st index done u e) where
+  taken : SoundLent st index u
+  taken = check-lends c refl .sound
+
+  -- Demand 3: two of its ids are equal exactly when they say the same under every reading.
+  pub equal-ids-equal-answers : (a b : ℕ) → KnownTo u a → KnownTo u b → (a ≡ b) ↔ ((ρ : Reading) → says (held st u) ρ a ≡ says (held st u) ρ b)
+  equal-ids-equal-answers a b ka kb = equal-when-they-agree (held st u) (holds-a-sound-table st index u taken) a b (into-held taken a ka) (into-held taken b kb)
+
+  -- Demand 3: no ordered diagram that says what one of its ids says has fewer nodes, or fewer edges, than that id reaches in it.
+  pub fewest-nodes-and-edges : (a : ℕ) → KnownTo u a → (d : Diagram) → Ordered d → (c : ℕ) → ref c ≤ d .size → ((ρ : Reading) → Tells d (positions ρ) c (says (held st u) ρ a))
+      → (rs ss : List ℕ) → Reached (diagramOf (held st u)) a rs → Reached d c ss → (length rs ≤ length ss) × (edges (diagramOf (held st u)) rs ≤ edges d ss)
+  fewest-nodes-and-edges a ka = no-smaller-diagram (held st u) (holds-a-sound-table st index u taken) a (into-held taken a ka)
+
+-- The table of lent words that answer is one that answers within the room.
+answerable : {m : Reading → Bool} {st : Store} {index : List ℕ} {u : ℕ} → LentAnswer m st index u → Answerable (room (st .nodes)) (length (st .children)) (held st u) m
+answerable l =
+    let w = l .lent in
+    record {
+      out = (l .table, l .id);
+      right = record { sound = rw (w .holds) at (holds-a-sound-table (l .words) (l .links) (w .used) (w .sound)); continues = l .continues; known = l .known; means = l .means };
+      fits = leaves-fits w;
+    }
+
+-- The words that a call leaves beside 0 answer.
+left-answer : {m : Reading → Bool} {st : Store} {index : List ℕ} {u : ℕ} {out : Table × ℕ} {st′ : Store} {index′ : List ℕ} → Answers (held st u) m out → Leaves (out .0) st index st′ index′ → LentAnswer m st index u
+left-answer {out = out} {st′} {index′} x h = record { table = out .0; words = st′; links = index′; lent = h; continues = x .right .continues; id = out .1; known = x .right .known; means = x .right .means }
+
+-- Any call that may add nodes, and any of its outcomes.
+module _ (q : Call) (st : Store) (index memo : List ℕ) {k id : ℕ} {st′ : Store} {index′ memo′ : List ℕ} (o : Comes q st index memo k id st′ index′ memo′) where
   abbrev Out : ℕ → ℕ → Store → List ℕ → List ℕ → Type 0
-  Out k id st′ index′ memo′ = Makes lent known kind want st index memo k id st′ index′ memo′
+  Out n to st″ index″ memo″ = Makes ((row q) .lent st index memo) ((row q) .known) ((row q) .kind) ((row q) .make) st index memo n to st″ index″ memo″
 
-  right-here : (u : ℕ) → SoundLent st index u → known u → kind → Answers (held st u) (m (held st u)) (want (held st u))
-  right-here u s a v = right (held st u) (holds-a-sound-table st index u s) (subst known (sym ((counts-what-is-held st index u s) .0)) a) v
+  -- what is known to the words is known to the table that they hold
+  knows : {u : ℕ} → SoundLent st index u → (row q) .known u → (row q) .known (length (held st u))
+  knows s a = subst ((row q) .known) (sym (counted s)) a
 
-  -- Number 0: the id is the answer.
-  pub answered : {k id : ℕ} {st′ : Store} {index′ memo′ : List ℕ} → Out k id st′ index′ memo′ → k ≡ done → Answered m st index id st′ index′
-  answered (made-1 f) e = absurd (omega arith)
-  answered (made-2 l f) e = absurd (omega arith)
-  answered (made-3 l u s f) e = absurd (omega arith)
-  answered (made-4 l u s a f) e = absurd (omega arith)
-  answered (made-6 l u s a v f) e = absurd (omega arith)
-  answered (made-0 l u s a v _ _ h) e = record { before = u; found = s; after = h .used; left = h .sound; answers = rw (h .holds) (right-here u s a v) }
+  -- what is asked is made from the table that is held
+  made-here : {u : ℕ} → SoundLent st index u → (row q) .known u → (row q) .kind → (m : Reading → Bool) → (row q) .asks (held st u) m → Answers (held st u) m ((row q) .make (held st u))
+  made-here {u} s a h = makes-what-is-asked (held st u) (holds-a-sound-table st index u s) q (o .0) (knows s a) h
 
-  -- Numbers 0 and 6: where the checks 1 to 4 pass, a call is done when there is room for the answer, and says 6 when there is none.
-  pub done-or-no-room : {k id : ℕ} {st′ : Store} {index′ memo′ : List ℕ} → Out k id st′ index′ memo′ → lent → (u : ℕ) → SoundLent st index u → known u → kind
-      → DoneOrNoRoom m st u k
-  done-or-no-room (made-1 f) l u s a v = absurd (f l)
-  done-or-no-room (made-2 l′ f) l u s a v = absurd (f u s)
-  done-or-no-room (made-3 l′ u′ s′ f) l u s a v = absurd (f (subst known (sound-once st index u u′ s s′) a))
-  done-or-no-room (made-4 l′ u′ s′ a′ f) l u s a v = absurd (f v)
-  done-or-no-room (made-6 l′ u′ s′ a′ v′ f) l u s a v = inr (refl, λ h. f (fits-exactly _ _ _ (right-here u′ s′ a′ v′) (room (st .nodes)) (length (st .children)) .0 (subst (HasRoom m st) (sound-once st index u u′ s s′) h)))
-  done-or-no-room (made-0 l′ u′ s′ a′ v′ _ _ h) l u s a v =
-      inl (refl, subst (HasRoom m st) (sound-once st index u′ u s′ s) (fits-exactly _ _ _ (right-here u′ s′ a′ v′) (room (st .nodes)) (length (st .children)) .1 (leaves-fits h)))
+  -- whatever it is
+  made-so : {u : ℕ} → SoundLent st index u → (row q) .known u → (row q) .kind → (m : Reading → Bool) × Answers (held st u) m ((row q) .make (held st u))
+  made-so {u} s a h = let x = something-is-asked (held st u) (holds-a-sound-table st index u s) q (o .0) (knows s a) h in (x .0, made-here s a h (x .0) (x .1))
 
-module _ (lent : Type 0) (known : ℕ → Type 0) (kind : Type 0) (want : Table → Table × ℕ) (st : Store) (index : List ℕ) where
-  -- Number 0 is told where the checks 2 to 4 pass.
-  done-admitted : {k id : ℕ} {memo : List ℕ} {st′ : Store} {index′ memo′ : List ℕ} → Makes lent known kind want st index memo k id st′ index′ memo′ → k ≡ done → (u : ℕ) × SoundLent st index u × known u × kind
-  done-admitted (made-1 f) e = absurd (omega arith)
-  done-admitted (made-2 l f) e = absurd (omega arith)
-  done-admitted (made-3 l u s f) e = absurd (omega arith)
-  done-admitted (made-4 l u s a f) e = absurd (omega arith)
-  done-admitted (made-6 l u s a v f) e = absurd (omega arith)
-  done-admitted (made-0 l u s a v _ _ h) e = (u, s, a, v)
+  -- Demand 2. Number 0: the id is the answer.
+  pub call-answered : k ≡ done → Answered q st index id st′ index′
+  call-answered e = go (o .1) e
+    where
+      go : {n to : ℕ} {st″ : Store} {index″ memo″ : List ℕ} → Out n to st″ index″ memo″ → n ≡ done → Answered q st index to st″ index″
+      go (made-1 f) e = absurd (omega arith)
+      go (made-2 l f) e = absurd (omega arith)
+      go (made-3 l u s f) e = absurd (omega arith)
+      go (made-4 l u s a f) e = absurd (omega arith)
+      go (made-6 l u s a h f) e = absurd (omega arith)
+      go (made-0 l u s a h st″ index″ w) e =
+          let x = made-so s a h in
+          let to = ((row q) .make (held st u)) .1 in
+          let y : Answers (held st u) (x .0) (held st″ (w .used), to) = rw (w .holds) (x .1) in
+          record {
+            before = u;
+            found = s;
+            after = w .used;
+            left = w .sound;
+            continues = y .right .continues;
+            known = omega (arith, y .right .known, counted (w .sound));
+            means = λ m asked. (let z : Answers (held st u) m (held st″ (w .used), to) = rw (w .holds) (made-here s a h m asked) in z .right .means);
+            reached = λ r p n. y .reached r (omega (arith, counted s)) (omega (arith, counted (w .sound)));
+          }
+
+  -- What is asked of its answer is one thing: so `means` pins the answer down.
+  pub asked-exactly : (u : ℕ) → SoundLent st index u → (row q) .known u → (row q) .kind
+      → (m : Reading → Bool) × (row q) .asks (held st u) m × ((m′ : Reading → Bool) → (row q) .asks (held st u) m′ → (ρ : Reading) → m ρ ≡ m′ ρ)
+  asked-exactly u s a h =
+      let z = holds-a-sound-table st index u s in
+      let x = something-is-asked (held st u) z q (o .0) (knows s a) h in
+      (x .0, x .1, λ m′ f. one-thing-is-asked (held st u) z q (o .0) (knows s a) h (x .0) m′ (x .1) f)
 
   -- A refusal answers FALSE and leaves the table as it was found.
-  pub refused-changes-nothing : {k id : ℕ} {memo : List ℕ} {st′ : Store} {index′ memo′ : List ℕ} → Makes lent known kind want st index memo k id st′ index′ memo′ → (k ≡ done → ⊥) → (id ≡ FALSE) × (st′ ≡ st) × (index′ ≡ index)
-  refused-changes-nothing (made-1 f) e = (refl, refl, refl)
-  refused-changes-nothing (made-2 l f) e = (refl, refl, refl)
-  refused-changes-nothing (made-3 l u s f) e = (refl, refl, refl)
-  refused-changes-nothing (made-4 l u s a f) e = (refl, refl, refl)
-  refused-changes-nothing (made-6 l u s a v f) e = (refl, refl, refl)
-  refused-changes-nothing (made-0 l u s a v _ _ h) e = absurd (e refl)
-
--- Narrowing by empty bounds has one answer: under each reading the id's answer either is steady or still changes.
-module _ (t : Table) (z : Sound t) (v : ℕ) (hv : v < firstBoolean) (id : ℕ) (k : Known t id) where
-  pub empty-answer-exists : (m : Reading → Bool) × EmptyAnswer t v id m
-  empty-answer-exists = (λ ρ. one ρ (steady-or-changing t z v hv id k ρ), λ ρ. as-asked ρ (steady-or-changing t z v hv id k ρ))
+  pub refused-changes-nothing : (k ≡ done → ⊥) → (id ≡ FALSE) × (st′ ≡ st) × (index′ ≡ index)
+  refused-changes-nothing e = go (o .1) e
     where
-      one : (ρ : Reading) → Steady t v ρ id ⊎ Changing t v ρ id → Bool
-      one ρ (inl s) = says t ρ id
-      one ρ (inr c) = false
+      go : {n to : ℕ} {st″ : Store} {index″ memo″ : List ℕ} → Out n to st″ index″ memo″ → (n ≡ done → ⊥) → (to ≡ FALSE) × (st″ ≡ st) × (index″ ≡ index)
+      go (made-1 f) e = (refl, refl, refl)
+      go (made-2 l f) e = (refl, refl, refl)
+      go (made-3 l u s f) e = (refl, refl, refl)
+      go (made-4 l u s a f) e = (refl, refl, refl)
+      go (made-6 l u s a v f) e = (refl, refl, refl)
+      go (made-0 l u s a v _ _ h) e = absurd (e refl)
 
-      as-asked : (ρ : Reading) (d : Steady t v ρ id ⊎ Changing t v ρ id) → ((Steady t v ρ id → ⊥) → one ρ d ≡ false) × (Steady t v ρ id → one ρ d ≡ says t ρ id)
-      as-asked ρ (inl s) = (λ f. absurd (f s), λ x. refl)
-      as-asked ρ (inr c) = (λ f. refl, λ s. absurd (not-steady t v ρ id c s))
+  -- On words that are a sound table of u nodes.
+  module _ (u : ℕ) (s : SoundLent st index u) where
+    -- Demand 2: after the call, whatever number it tells, the words are a sound table, and each id that was known before is known and says
+    -- under every reading what it said before.
+    pub call-keeps-older-ids : (u′ : ℕ) × SoundLent st′ index′ u′ × ((a : ℕ) → KnownTo u a → KnownTo u′ a × ((ρ : Reading) → says (held st′ u′) ρ a ≡ says (held st u) ρ a))
+    call-keeps-older-ids = go (o .1)
+      where
+        Kept : Store → List ℕ → Type 0
+        Kept st″ index″ = (u′ : ℕ) × SoundLent st″ index″ u′ × ((a : ℕ) → KnownTo u a → KnownTo u′ a × ((ρ : Reading) → says (held st″ u′) ρ a ≡ says (held st u) ρ a))
 
-  pub empty-answer-once : (m m′ : Reading → Bool) → EmptyAnswer t v id m → EmptyAnswer t v id m′ → (ρ : Reading) → m ρ ≡ m′ ρ
-  empty-answer-once m m′ h h′ ρ = ⊎-elim (λ s. h ρ .1 s ∙ sym (h′ ρ .1 s)) (λ c. let f = not-steady t v ρ id c in h ρ .0 f ∙ sym (h′ ρ .0 f)) (steady-or-changing t z v hv id k ρ)
+        as-it-was : Kept st index
+        as-it-was = (u, s, λ a ka. (ka, λ ρ. refl))
 
--- and one function of tables and readings has it from every sound table.
-pub empty-answers-exist : (v : ℕ) → v < firstBoolean → (id : ℕ) → (m : Table → Reading → Bool) × ((t : Table) → Sound t → Known t id → EmptyAnswer t v id (m t))
-empty-answers-exist v hv id = (m, λ t z k ρ. as-asked t z k ρ (empty-answer-exists t z v hv id k))
-  where
-    -- bounds that are empty
-    none : Bound
-    none = Excludes (pos 0)
+        longer : {st″ : Store} {index″ : List ℕ} → Leaves (((row q) .make (held st u)) .0) st index st″ index″ → (row q) .known u → (row q) .kind → Kept st″ index″
+        longer {st″} w a h =
+            let c : Continues (held st u) (held st″ (w .used)) = rw (w .holds) ((made-so s a h) .1 .right .continues) in
+            (w .used, w .sound, λ b kb. (omega (arith, continues-length c, counted s, counted (w .sound)), λ ρ. old-ids-say-the-same (held st u) (held st″ (w .used)) c ρ b (into-held s b kb)))
 
-    keyed : Keyed none
-    keyed = (leZ-yes tt, leZ-yes tt)
+        go : {n to : ℕ} {st″ : Store} {index″ memo″ : List ℕ} → Out n to st″ index″ memo″ → Kept st″ index″
+        go (made-1 f) = as-it-was
+        go (made-2 l f) = as-it-was
+        go (made-3 l v t f) = as-it-was
+        go (made-4 l v t a f) = as-it-was
+        go (made-6 l v t a h f) = as-it-was
+        go (made-0 l v t a h st″ index″ w) =
+            let e = sound-once st index v u t s in
+            longer (subst (λ (n : ℕ). Leaves (((row q) .make (held st n)) .0) st index st″ index″) e w) (subst ((row q) .known) e a) h
 
-    m : Table → Reading → Bool
-    m t ρ = let out = narrow t v none none id in says (out .0) ρ (out .1)
+    module _ (l : (row q) .lent st index memo) (a : (row q) .known u) (h : (row q) .kind) where
+      -- where the checks 1 to 4 pass, the number is 0 if what the operation makes fits, with the words that are left, and 6 if it does not
+      abbrev makes : Table
+      makes = ((row q) .make (held st u)) .0
 
-    as-asked : (t : Table) → Sound t → Known t id → (ρ : Reading) → (x : Reading → Bool) × EmptyAnswer t v id x → ((Steady t v ρ id → ⊥) → m t ρ ≡ false) × (Steady t v ρ id → m t ρ ≡ says t ρ id)
-    as-asked t z k ρ x =
-        let y = narrow-empty-answers t z id k v hv none none keyed keyed (empty-exactly none none keyed keyed .0 refl) (x .0) (x .1) in
-        (λ f. y .right .means ρ ∙ (x .1) ρ .0 f, λ s. y .right .means ρ ∙ (x .1) ρ .1 s)
+      done-or-full : ((k ≡ done) × Leaves makes st index st′ index′) ⊎ ((k ≡ 6) × (Fits (room (st .nodes)) (length (st .children)) makes → ⊥))
+      done-or-full = go (o .1)
+        where
+          go : {n to : ℕ} {st″ : Store} {index″ memo″ : List ℕ} → Out n to st″ index″ memo″ → ((n ≡ done) × Leaves makes st index st″ index″) ⊎ ((n ≡ 6) × (Fits (room (st .nodes)) (length (st .children)) makes → ⊥))
+          go (made-1 f) = absurd (f l)
+          go (made-2 l′ f) = absurd (f u s)
+          go (made-3 l′ v t f) = absurd (f (subst ((row q) .known) (sound-once st index u v s t) a))
+          go (made-4 l′ v t a′ f) = absurd (f h)
+          go (made-6 l′ v t a′ h′ f) = inr (refl, subst (λ (n : ℕ). Fits (room (st .nodes)) (length (st .children)) (((row q) .make (held st n)) .0) → ⊥) (sound-once st index v u t s) f)
+          go (made-0 l′ v t a′ h′ st″ index″ w) = inl (refl, subst (λ (n : ℕ). Leaves (((row q) .make (held st n)) .0) st index st″ index″) (sound-once st index v u t s) w)
 
--- The operations are right.
-abbrev AnswersAlways : (ℕ → Type 0) → Type 0 → (Table → Table × ℕ) → (Table → Reading → Bool) → Type 0
-AnswersAlways known kind want m = (t : Table) → Sound t → known (length t) → kind → Answers t (m t) (want t)
+      module _ (m : Reading → Bool) (asked : (row q) .asks (held st u) m) where
+        exactly : Answerable (room (st .nodes)) (length (st .children)) (held st u) m ↔ Fits (room (st .nodes)) (length (st .children)) makes
+        exactly = fits-exactly _ _ _ (made-here s a h m asked) (room (st .nodes)) (length (st .children))
 
-from-range-right : (v : ℕ) (lower upper : Bound) → BothKeyed lower upper → AnswersAlways (λ u. Unit {0}) (v < firstBoolean) (λ t. from-range t v lower upper) (λ t ρ. inside lower upper (ρ .place v))
-from-range-right v lower upper keys t z a h = from-range-answers t z v h lower upper (keys .0) (keys .1)
+        -- Demand 2, "no room" both ways: the number is 0 if some sound table that continues this one within its room holds the answer, and 6 if
+        -- none does;
+        pub done-or-no-room : DoneOrNoRoom (Answerable (room (st .nodes)) (length (st .children)) (held st u) m) k
+        done-or-no-room = go done-or-full
+          where
+            go : ((k ≡ done) × Leaves makes st index st′ index′) ⊎ ((k ≡ 6) × (Fits (room (st .nodes)) (length (st .children)) makes → ⊥)) → DoneOrNoRoom (Answerable (room (st .nodes)) (length (st .children)) (held st u) m) k
+            go (inl (e, w)) = inl (e, exactly .1 (leaves-fits w))
+            go (inr (e, f)) = inr (e, λ x. f (exactly .0 x))
 
-comparison-right : (v : ℕ) (op : Comparison) (key : ℤ) → Key key → AnswersAlways (λ u. Unit {0}) (v < firstBoolean) (λ t. comparison t v op key) (λ t ρ. compares op key (ρ .place v))
-comparison-right v op key kk t z a h = comparison-answers t z v h op key kk
-
-from-bool-right : (v : ℕ) → AnswersAlways (λ u. Unit {0}) ((firstBoolean ≤ v) × (v < variables)) (λ t. from-bool t v) (λ t ρ. ρ .holds v)
-from-bool-right v t z a h = from-bool-answers t z v (h .0) (h .1)
-
-and-right : (x y : ℕ) → AnswersAlways (BothKnown x y) (Unit {0}) (λ t. and t x y) (λ t ρ. says t ρ x && says t ρ y)
-and-right x y t z a h = and-answers t z x y (a .0) (a .1)
-
-or-right : (x y : ℕ) → AnswersAlways (BothKnown x y) (Unit {0}) (λ t. or t x y) (λ t ρ. says t ρ x || says t ρ y)
-or-right x y t z a h = or-answers t z x y (a .0) (a .1)
-
-restrict-right : (id v : ℕ) (value : Bool) → firstBoolean ≤ v → AnswersAlways (λ u. KnownTo u id) (v < variables) (λ t. restrict t v value id) (λ t ρ. says t (switched ρ v value) id)
-restrict-right id v value b t z a h = restrict-answers t z id a v b h value
-
-restrict-range-right : (id v : ℕ) (value : Bool) → v < firstBoolean → AnswersAlways (λ u. KnownTo u id) (v < variables) (λ t. restrict t v value id) (λ t ρ. says t ρ id)
-restrict-range-right id v value b t z a h = rw (restrict-range t z id a v b value) (record { right = record { sound = z; continues = same; known = a; means = λ ρ. refl }; reached = λ r l m. absurd (omega arith) })
-
-module _ (id v : ℕ) (lower upper : Bound) (keys : BothKeyed lower upper) where
-  narrow-right : (near : Reading → Reading) → ((ρ : Reading) → AtNearest v lower upper ρ (near ρ))
-      → AnswersAlways (λ u. KnownTo u id) (v < firstBoolean) (λ t. narrow t v lower upper id) (λ t ρ. says t (near ρ) id)
-  narrow-right near n t z a h = narrow-answers t z id a v h lower upper (keys .0) (keys .1) near n
-
-  widen-right : AnswersAlways (λ u. KnownTo u id) (v < firstBoolean) (λ t. widen t v lower upper id) (λ t ρ. says t ρ id && inside lower upper (ρ .place v))
-  widen-right t z a h = widen-answers t z id a v h lower upper (keys .0) (keys .1)
-
-  narrow-empty-right : Empty lower upper → (m : Table → Reading → Bool) → ((t : Table) → Sound t → Known t id → EmptyAnswer t v id (m t))
-      → AnswersAlways (λ u. KnownTo u id) (v < firstBoolean) (λ t. narrow t v lower upper id) m
-  narrow-empty-right e m asked t z a h = narrow-empty-answers t z id a v h lower upper (keys .0) (keys .1) e (m t) (asked t z a)
-
--- The calls that may add nodes: what the id says beside 0, and that 0 or 6 is told by whether there is room.
-module _ (st : Store) (index : List ℕ) where
-  module _ (v : ℕ) {k id : ℕ} {st′ : Store} {index′ : List ℕ} where
-    -- Step 3: a range by two bounds holds where the place is inside,
-    pub from-range-answered : (lower upper : Bound) → FromRange st index v lower upper k id st′ index′ → k ≡ done → Answered (λ s ρ. inside lower upper (ρ .place v)) st index id st′ index′
-    from-range-answered lower upper (keys, o) = answered _ _ _ _ _ (from-range-right v lower upper keys) st index _ o
-
-    pub from-range-room : (lower upper : Bound) → FromRange st index v lower upper k id st′ index′ → Allowed st index → (u : ℕ) → SoundLent st index u → v < firstBoolean → DoneOrNoRoom (λ s ρ. inside lower upper (ρ .place v)) st u k
-    from-range-room lower upper (keys, o) l u s h = done-or-no-room _ _ _ _ _ (from-range-right v lower upper keys) st index _ o l u s tt h
-
-    -- a comparison where the place compares so with the key,
-    pub comparison-answered : (op : Comparison) (key : ℤ) → Compares st index v op key k id st′ index′ → k ≡ done → Answered (λ s ρ. compares op key (ρ .place v)) st index id st′ index′
-    comparison-answered op key (kk, o) = answered _ _ _ _ _ (comparison-right v op key kk) st index _ o
-
-    pub comparison-room : (op : Comparison) (key : ℤ) → Compares st index v op key k id st′ index′ → Allowed st index → (u : ℕ) → SoundLent st index u → v < firstBoolean → DoneOrNoRoom (λ s ρ. compares op key (ρ .place v)) st u k
-    comparison-room op key (kk, o) l u s h = done-or-no-room _ _ _ _ _ (comparison-right v op key kk) st index _ o l u s tt h
-
-    -- and a boolean where it is yes.
-    pub from-bool-answered : FromBool st index v k id st′ index′ → k ≡ done → Answered (λ s ρ. ρ .holds v) st index id st′ index′
-    from-bool-answered o = answered _ _ _ _ _ (from-bool-right v) st index _ o
-
-    pub from-bool-room : FromBool st index v k id st′ index′ → Allowed st index → (u : ℕ) → SoundLent st index u → (firstBoolean ≤ v) × (v < variables) → DoneOrNoRoom (λ s ρ. ρ .holds v) st u k
-    from-bool-room o l u s h = done-or-no-room _ _ _ _ _ (from-bool-right v) st index _ o l u s tt h
-
-  module _ (memo : List ℕ) (x y : ℕ) {k id : ℕ} {st′ : Store} {index′ memo′ : List ℕ} where
-    -- Step 5: conjunction says both,
-    pub and-answered : Ands st index memo x y k id st′ index′ memo′ → k ≡ done → Answered (λ s ρ. says s ρ x && says s ρ y) st index id st′ index′
-    and-answered o = answered _ _ _ _ _ (and-right x y) st index memo o
-
-    pub and-room : Ands st index memo x y k id st′ index′ memo′ → Lending st index memo → (u : ℕ) → SoundLent st index u → BothKnown x y u → DoneOrNoRoom (λ s ρ. says s ρ x && says s ρ y) st u k
-    and-room o l u s a = done-or-no-room _ _ _ _ _ (and-right x y) st index memo o l u s a tt
-
-    -- and disjunction either.
-    pub or-answered : Ors st index memo x y k id st′ index′ memo′ → k ≡ done → Answered (λ s ρ. says s ρ x || says s ρ y) st index id st′ index′
-    or-answered o = answered _ _ _ _ _ (or-right x y) st index memo o
-
-    pub or-room : Ors st index memo x y k id st′ index′ memo′ → Lending st index memo → (u : ℕ) → SoundLent st index u → BothKnown x y u → DoneOrNoRoom (λ s ρ. says s ρ x || says s ρ y) st u k
-    or-room o l u s a = done-or-no-room _ _ _ _ _ (or-right x y) st index memo o l u s a tt
-
-  -- Steps 7 to 9, of an id and a variable.
-  module _ (memo : List ℕ) (id v : ℕ) {k to : ℕ} {st′ : Store} {index′ memo′ : List ℕ} where
-    -- Restriction of a boolean says what the id says with the boolean at the value,
-    pub restrict-answered : (value : Bool) → firstBoolean ≤ v → Restricts st index memo id v value k to st′ index′ memo′ → k ≡ done → Answered (λ s ρ. says s (switched ρ v value) id) st index to st′ index′
-    restrict-answered value b o = answered _ _ _ _ _ (restrict-right id v value b) st index memo o
-
-    pub restrict-room : (value : Bool) → firstBoolean ≤ v → Restricts st index memo id v value k to st′ index′ memo′ → Lending st index memo → (u : ℕ) → SoundLent st index u → KnownTo u id → v < variables
-        → DoneOrNoRoom (λ s ρ. says s (switched ρ v value) id) st u k
-    restrict-room value b o l u s a h = done-or-no-room _ _ _ _ _ (restrict-right id v value b) st index memo o l u s a h
-
-    -- and of a range variable what the id says.
-    pub restrict-range-answered : (value : Bool) → v < firstBoolean → Restricts st index memo id v value k to st′ index′ memo′ → k ≡ done → Answered (λ s ρ. says s ρ id) st index to st′ index′
-    restrict-range-answered value b o = answered _ _ _ _ _ (restrict-range-right id v value b) st index memo o
-
-    pub restrict-range-room : (value : Bool) → v < firstBoolean → Restricts st index memo id v value k to st′ index′ memo′ → Lending st index memo → (u : ℕ) → SoundLent st index u → KnownTo u id
-        → DoneOrNoRoom (λ s ρ. says s ρ id) st u k
-    restrict-range-room value b o l u s a = done-or-no-room _ _ _ _ _ (restrict-range-right id v value b) st index memo o l u s a (omega arith)
-
-    module _ (lower upper : Bound) where
-      -- Narrowing: "the answer at a place is the old answer at the nearest place inside the bounds";
-      pub narrow-answered : (near : Reading → Reading) → ((ρ : Reading) → AtNearest v lower upper ρ (near ρ)) → Narrows st index memo id v lower upper k to st′ index′ memo′ → k ≡ done
-          → Answered (λ s ρ. says s (near ρ) id) st index to st′ index′
-      narrow-answered near n (keys, o) = answered _ _ _ _ _ (narrow-right id v lower upper keys near n) st index memo o
-
-      pub narrow-room : (near : Reading → Reading) → ((ρ : Reading) → AtNearest v lower upper ρ (near ρ)) → Narrows st index memo id v lower upper k to st′ index′ memo′ → Lending st index memo → (u : ℕ) → SoundLent st index u → KnownTo u id → v < firstBoolean
-          → DoneOrNoRoom (λ s ρ. says s (near ρ) id) st u k
-      narrow-room near n (keys, o) l u s a h = done-or-no-room _ _ _ _ _ (narrow-right id v lower upper keys near n) st index memo o l u s a h
-
-      -- "with empty bounds the answer is FALSE wherever, the earlier variables being fixed, the old answer still changes with the chosen
-      -- one; elsewhere it is the old answer".
-      pub narrow-empty-answered : Empty lower upper → (m : Table → Reading → Bool) → ((t : Table) → Sound t → Known t id → EmptyAnswer t v id (m t))
-          → Narrows st index memo id v lower upper k to st′ index′ memo′ → k ≡ done → Answered m st index to st′ index′
-      narrow-empty-answered e m asked (keys, o) = answered _ _ _ _ _ (narrow-empty-right id v lower upper keys e m asked) st index memo o
-
-      pub narrow-empty-room : Empty lower upper → (m : Table → Reading → Bool) → ((t : Table) → Sound t → Known t id → EmptyAnswer t v id (m t))
-          → Narrows st index memo id v lower upper k to st′ index′ memo′ → Lending st index memo → (u : ℕ) → SoundLent st index u → KnownTo u id → v < firstBoolean → DoneOrNoRoom m st u k
-      narrow-empty-room e m asked (keys, o) l u s a h = done-or-no-room _ _ _ _ _ (narrow-empty-right id v lower upper keys e m asked) st index memo o l u s a h
-
-      -- Widening: "old answer and inside the bounds".
-      pub widen-answered : Widens st index memo id v lower upper k to st′ index′ memo′ → k ≡ done → Answered (λ s ρ. says s ρ id && inside lower upper (ρ .place v)) st index to st′ index′
-      widen-answered (keys, o) = answered _ _ _ _ _ (widen-right id v lower upper keys) st index memo o
-
-      pub widen-room : Widens st index memo id v lower upper k to st′ index′ memo′ → Lending st index memo → (u : ℕ) → SoundLent st index u → KnownTo u id → v < firstBoolean
-          → DoneOrNoRoom (λ s ρ. says s ρ id && inside lower upper (ρ .place v)) st u k
-      widen-room (keys, o) l u s a h = done-or-no-room _ _ _ _ _ (widen-right id v lower upper keys) st index memo o l u s a h
+        -- and the same of lent words.
+        pub done-or-no-lent-room : DoneOrNoRoom (LentAnswer m st index u) k
+        done-or-no-lent-room = go done-or-full
+          where
+            go : ((k ≡ done) × Leaves makes st index st′ index′) ⊎ ((k ≡ 6) × (Fits (room (st .nodes)) (length (st .children)) makes → ⊥)) → DoneOrNoRoom (LentAnswer m st index u) k
+            go (inl (e, w)) = inl (e, left-answer (made-here s a h m asked) w)
+            go (inr (e, f)) = inr (e, λ x. f (exactly .0 (answerable x)))
 
 -- Step 6: disjointness beside 0 is yes exactly when no reading makes both true.
 pub disjoint-told : (st : Store) (index : List ℕ) (x y : ℕ) {k : ℕ} {b : Bool} → Disjoints st index x y k b → k ≡ done
     → (u : ℕ) × SoundLent st index u × ((b ≡ true) ↔ ((ρ : Reading) → (says (held st u) ρ x && says (held st u) ρ y) ≡ false))
-disjoint-told st index x y (disjoint-1 f) e = absurd (omega arith)
-disjoint-told st index x y (disjoint-2 l f) e = absurd (omega arith)
-disjoint-told st index x y (disjoint-3 l u s f) e = absurd (omega arith)
-disjoint-told st index x y (disjoint-0 l u s a) e =
-    let q = (counts-what-is-held st index u s) .0 in
-    (u, s, disjoint-exactly (held st u) (holds-a-sound-table st index u s) x y (omega (arith, a .0)) (omega (arith, a .1)))
+disjoint-told st index x y (reply-1 f) e = absurd (omega arith)
+disjoint-told st index x y (reply-2 l f) e = absurd (omega arith)
+disjoint-told st index x y (reply-3 l u s f) e = absurd (omega arith)
+disjoint-told st index x y (reply-5 l u s a f) e = absurd (omega arith)
+disjoint-told st index x y (reply-0 l u s a ok) e =
+    (u, s, disjoint-exactly (held st u) (holds-a-sound-table st index u s) x y (into-held s x (a .0)) (into-held s y (a .1)))
 
 -- The memo is "never believed": whatever it held, and whichever of the allowed lengths it has, a call gives the same number, the same id and the
 -- same table.
@@ -263,11 +216,10 @@ module _ {lent lent″ : Type 0} (to : lent → lent″) (back : lent″ → len
   with-memo (made-6 l u s a v f) = (replicate (length memo″) 0, made-6 (to l) u s a v f)
   with-memo (made-0 l u s a v st′ index′ h) = (replicate (length memo″) 0, made-0 (to l) u s a v st′ index′ h)
 
-pub memo-never-believed : (known : ℕ → Type 0) (kind : Type 0) (want : Table → Table × ℕ) (st : Store) (index memo memo″ : List ℕ)
-    → (MemoLengths (length memo) (room (st .nodes)) → MemoLengths (length memo″) (room (st .nodes))) → (MemoLengths (length memo″) (room (st .nodes)) → MemoLengths (length memo) (room (st .nodes))) → {k k″ id id″ : ℕ} {st′ st″ : Store} {index′ index″ z z″ : List ℕ}
-    → WithMemo st index memo known kind want k id st′ index′ z → WithMemo st index memo″ known kind want k″ id″ st″ index″ z″
+pub memo-never-believed : (q : Call) (st : Store) (index memo memo″ : List ℕ) → ((row q) .lent st index memo → (row q) .lent st index memo″) → ((row q) .lent st index memo″ → (row q) .lent st index memo)
+    → {k k″ id id″ : ℕ} {st′ st″ : Store} {index′ index″ z z″ : List ℕ} → Comes q st index memo k id st′ index′ z → Comes q st index memo″ k″ id″ st″ index″ z″
     → (k ≡ k″) × (id ≡ id″) × (st′ ≡ st″) × (index′ ≡ index″)
-memo-never-believed known kind want st index memo memo″ to back o o″ =
-    let w = with-memo {lent″ = Lending st index memo″} (λ l. (l .0, to (l .1))) (λ l. (l .0, back (l .1))) known kind want st index memo memo″ o in
-    let q = makes-once (Lending st index memo″) known kind want st index memo″ (w .1) o″ in
-    (q .0, q .1, q .2, q .3)
+memo-never-believed q st index memo memo″ to back o o″ =
+    let w = with-memo to back ((row q) .known) ((row q) .kind) ((row q) .make) st index memo memo″ (o .1) in
+    let x = makes-once ((row q) .lent st index memo″) ((row q) .known) ((row q) .kind) ((row q) .make) st index memo″ (w .1) (o″ .1) in
+    (x .0, x .1, x .2, x .3)

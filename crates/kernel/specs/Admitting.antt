@@ -8,7 +8,8 @@ use Rattle.table.specs.Layout.{room, MemoLengths, Store}
 use Rattle.table.specs.Told.{done, wrongRoom, unknownId, Checks}
 use Rattle.making.specs.declared.nodes.Used.{Used}
 use Rattle.making.specs.Outcome.{Lent}
-use Rattle.kernel.specs.Makes.{wrongVariable, BothKnown}
+use Rattle.kernel.specs.Calls.{BothKnown}
+use Rattle.kernel.specs.Makes.{wrongVariable}
 
 -- In the order of the checks: a refusal by the check of the table, a variable that is not of the kind that is asked, or a table to work on.
 pub data Admits (st : Store) (index : List ℕ) : Bool → ℕ → Used → Type 0 where

@@ -2,7 +2,7 @@
 ghost use Prim.Native.Nat.{_≤_, _<_, _^_};
 ghost use Rattle.diagram.specs.Table.{firstBoolean, variables};
 ghost use Rattle.table.specs.Deciding.{Decides};
-ghost use Rattle.kernel.specs.Makes.{BothKnown};
+ghost use Rattle.kernel.specs.Calls.{BothKnown};
 ghost use Rattle.kernel.specs.Admitting.{Admits, AdmitsIds};
 ghost use Rattle.table.specs.Layout.{MemoLengths, store};
 use super::answers::WRONG_VARIABLE;

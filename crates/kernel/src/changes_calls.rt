@@ -1,6 +1,7 @@
 // Restriction, narrowing and widening. Document 01, steps 7 to 9. Refusals 1, 2, 3, 4 and 6; "narrowing and widening ask a range variable",
 // and restriction takes any of the 64.
-ghost use Rattle.kernel.specs.Makes.{Restricts, Narrows, Widens};
+ghost use Rattle.kernel.specs.Calls.{restriction-of, narrowing-of, widening-of};
+ghost use Rattle.kernel.specs.Makes.{Comes};
 ghost use Rattle.table.specs.Layout.{store};
 use super::admission::admit_ids;
 use super::admission::is_range;
@@ -29,7 +30,7 @@ pub fn restrict(
     v: u32,
     value: bool,
 ) -> Answer
-    ensures { λ r. ⌜ Restricts (store (now (nodes .entry)) (now (children .entry)) (now (cuts .entry))) (now (index .entry)) (now (memo .entry)) (id .0) v value (r .number) (r .id .0) (store (now (nodes .exit)) (now (children .exit)) (now (cuts .exit))) (now (index .exit)) (now (memo .exit)) ⌝ }
+    ensures { λ r. ⌜ Comes (restriction-of (id .0) v value) (store (now (nodes .entry)) (now (children .entry)) (now (cuts .entry))) (now (index .entry)) (now (memo .entry)) (r .number) (r .id .0) (store (now (nodes .exit)) (now (children .exit)) (now (cuts .exit))) (now (index .exit)) (now (memo .exit)) ⌝ }
 {
     let kind = is_variable(v);
     let a = admit_ids(nodes, children, cuts, index, memo.len(), id, id, kind);
@@ -57,7 +58,7 @@ pub fn narrow(
     lower: Bound,
     upper: Bound,
 ) -> Answer
-    ensures { λ r. ⌜ Narrows (store (now (nodes .entry)) (now (children .entry)) (now (cuts .entry))) (now (index .entry)) (now (memo .entry)) (id .0) v lower upper (r .number) (r .id .0) (store (now (nodes .exit)) (now (children .exit)) (now (cuts .exit))) (now (index .exit)) (now (memo .exit)) ⌝ }
+    ensures { λ r. ⌜ Comes (narrowing-of (id .0) v lower upper) (store (now (nodes .entry)) (now (children .entry)) (now (cuts .entry))) (now (index .entry)) (now (memo .entry)) (r .number) (r .id .0) (store (now (nodes .exit)) (now (children .exit)) (now (cuts .exit))) (now (index .exit)) (now (memo .exit)) ⌝ }
 {
     let kind = is_range(v);
     let a = admit_ids(nodes, children, cuts, index, memo.len(), id, id, kind);
@@ -94,7 +95,7 @@ pub fn widen(
     lower: Bound,
     upper: Bound,
 ) -> Answer
-    ensures { λ r. ⌜ Widens (store (now (nodes .entry)) (now (children .entry)) (now (cuts .entry))) (now (index .entry)) (now (memo .entry)) (id .0) v lower upper (r .number) (r .id .0) (store (now (nodes .exit)) (now (children .exit)) (now (cuts .exit))) (now (index .exit)) (now (memo .exit)) ⌝ }
+    ensures { λ r. ⌜ Comes (widening-of (id .0) v lower upper) (store (now (nodes .entry)) (now (children .entry)) (now (cuts .entry))) (now (index .entry)) (now (memo .entry)) (r .number) (r .id .0) (store (now (nodes .exit)) (now (children .exit)) (now (cuts .exit))) (now (index .exit)) (now (memo .exit)) ⌝ }
 {
     let kind = is_range(v);
     let a = admit_ids(nodes, children, cuts, index, memo.len(), id, id, kind);

@@ -1,6 +1,8 @@
 // Conditions. Document 01, step 3. Refusals 1, 2, 4 and 6; "a range condition .. ask[s] a range variable; a boolean condition asks a
 // boolean one".
-ghost use Rattle.kernel.specs.Makes.{FromRange, Compares, FromBool};
+ghost use mathlib.Core.List.{[]};
+ghost use Rattle.kernel.specs.Calls.{range-of, comparison-of, boolean-of};
+ghost use Rattle.kernel.specs.Makes.{Comes};
 ghost use Rattle.table.specs.Layout.{store};
 use super::admission::admit;
 use super::admission::is_boolean;
@@ -23,7 +25,7 @@ pub fn from_range(
     lower: Bound,
     upper: Bound,
 ) -> Answer
-    ensures { λ r. ⌜ FromRange (store (now (nodes .entry)) (now (children .entry)) (now (cuts .entry))) (now (index .entry)) v lower upper (r .number) (r .id .0) (store (now (nodes .exit)) (now (children .exit)) (now (cuts .exit))) (now (index .exit)) ⌝ }
+    ensures { λ r. ⌜ Comes (range-of v lower upper) (store (now (nodes .entry)) (now (children .entry)) (now (cuts .entry))) (now (index .entry)) [] (r .number) (r .id .0) (store (now (nodes .exit)) (now (children .exit)) (now (cuts .exit))) (now (index .exit)) [] ⌝ }
 {
     let a = admit(nodes, children, cuts, index, is_range(v));
     if a.number != DONE {
@@ -43,7 +45,7 @@ pub fn from_comparison(
     op: Comparison,
     key: i32,
 ) -> Answer
-    ensures { λ r. ⌜ Compares (store (now (nodes .entry)) (now (children .entry)) (now (cuts .entry))) (now (index .entry)) v op key (r .number) (r .id .0) (store (now (nodes .exit)) (now (children .exit)) (now (cuts .exit))) (now (index .exit)) ⌝ }
+    ensures { λ r. ⌜ Comes (comparison-of v op key) (store (now (nodes .entry)) (now (children .entry)) (now (cuts .entry))) (now (index .entry)) [] (r .number) (r .id .0) (store (now (nodes .exit)) (now (children .exit)) (now (cuts .exit))) (now (index .exit)) [] ⌝ }
 {
     let a = admit(nodes, children, cuts, index, is_range(v));
     if a.number != DONE {
@@ -61,7 +63,7 @@ pub fn from_bool(
     index: &mut [u32],
     v: u32,
 ) -> Answer
-    ensures { λ r. ⌜ FromBool (store (now (nodes .entry)) (now (children .entry)) (now (cuts .entry))) (now (index .entry)) v (r .number) (r .id .0) (store (now (nodes .exit)) (now (children .exit)) (now (cuts .exit))) (now (index .exit)) ⌝ }
+    ensures { λ r. ⌜ Comes (boolean-of v) (store (now (nodes .entry)) (now (children .entry)) (now (cuts .entry))) (now (index .entry)) [] (r .number) (r .id .0) (store (now (nodes .exit)) (now (children .exit)) (now (cuts .exit))) (now (index .exit)) [] ⌝ }
 {
     let a = admit(nodes, children, cuts, index, is_boolean(v));
     if a.number != DONE {

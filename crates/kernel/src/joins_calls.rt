@@ -1,6 +1,7 @@
 // Conjunction and disjunction. Document 01, step 5. Refusals 1, 2, 3 and 6. "The memo is scratch: zeroed at entry, never believed", and all zero
 // at the end.
-ghost use Rattle.kernel.specs.Makes.{Ands, Ors};
+ghost use Rattle.kernel.specs.Calls.{both-of, either-of};
+ghost use Rattle.kernel.specs.Makes.{Comes};
 ghost use Rattle.table.specs.Layout.{store};
 use super::admission::admit_ids;
 use super::answers::Answer;
@@ -22,7 +23,7 @@ pub fn and(
     x: NodeId,
     y: NodeId,
 ) -> Answer
-    ensures { λ r. ⌜ Ands (store (now (nodes .entry)) (now (children .entry)) (now (cuts .entry))) (now (index .entry)) (now (memo .entry)) (x .0) (y .0) (r .number) (r .id .0) (store (now (nodes .exit)) (now (children .exit)) (now (cuts .exit))) (now (index .exit)) (now (memo .exit)) ⌝ }
+    ensures { λ r. ⌜ Comes (both-of (x .0) (y .0)) (store (now (nodes .entry)) (now (children .entry)) (now (cuts .entry))) (now (index .entry)) (now (memo .entry)) (r .number) (r .id .0) (store (now (nodes .exit)) (now (children .exit)) (now (cuts .exit))) (now (index .exit)) (now (memo .exit)) ⌝ }
 {
     let a = admit_ids(nodes, children, cuts, index, memo.len(), x, y, true);
     if a.number != DONE {
@@ -46,7 +47,7 @@ pub fn or(
     x: NodeId,
     y: NodeId,
 ) -> Answer
-    ensures { λ r. ⌜ Ors (store (now (nodes .entry)) (now (children .entry)) (now (cuts .entry))) (now (index .entry)) (now (memo .entry)) (x .0) (y .0) (r .number) (r .id .0) (store (now (nodes .exit)) (now (children .exit)) (now (cuts .exit))) (now (index .exit)) (now (memo .exit)) ⌝ }
+    ensures { λ r. ⌜ Comes (either-of (x .0) (y .0)) (store (now (nodes .entry)) (now (children .entry)) (now (cuts .entry))) (now (index .entry)) (now (memo .entry)) (r .number) (r .id .0) (store (now (nodes .exit)) (now (children .exit)) (now (cuts .exit))) (now (index .exit)) (now (memo .exit)) ⌝ }
 {
     let a = admit_ids(nodes, children, cuts, index, memo.len(), x, y, true);
     if a.number != DONE {

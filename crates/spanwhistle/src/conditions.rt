@@ -2,7 +2,9 @@
 // which is 1 beside every number but 0. The comparisons have a function each, so that C needs no numbers for them.
 ghost use Rattle.table.specs.Layout.{store};
 ghost use Rattle.ranges.specs.declared.bounds.Comparison.the-variants.{Equal, NotEqual, LessThan, LessEqual, GreaterThan, GreaterEqual};
-ghost use Rattle.kernel.specs.Makes.{Compares, FromRange, FromBool};
+ghost use mathlib.Core.List.{[]};
+ghost use Rattle.kernel.specs.Calls.{range-of, comparison-of, boolean-of};
+ghost use Rattle.kernel.specs.Makes.{Comes};
 ghost use Rattle.spanwhistle.specs.Numbers.{boundOf};
 use super::numbers::bound_of;
 use kernel::conditions_calls;
@@ -19,7 +21,7 @@ pub extern "C" fn spanwhistle_equal(
     key: i32,
     id: &mut u32,
 ) -> u32
-    ensures { λ r. ⌜ Compares (store (now (nodes .entry)) (now (children .entry)) (now (cuts .entry))) (now (index .entry)) variable Equal key r (now (id .exit)) (store (now (nodes .exit)) (now (children .exit)) (now (cuts .exit))) (now (index .exit)) ⌝ }
+    ensures { λ r. ⌜ Comes (comparison-of variable Equal key) (store (now (nodes .entry)) (now (children .entry)) (now (cuts .entry))) (now (index .entry)) [] r (now (id .exit)) (store (now (nodes .exit)) (now (children .exit)) (now (cuts .exit))) (now (index .exit)) [] ⌝ }
 {
     let op = Comparison::Equal;
     let a = conditions_calls::from_comparison(nodes, children, cuts, index, variable, op, key);
@@ -38,7 +40,7 @@ pub extern "C" fn spanwhistle_not_equal(
     key: i32,
     id: &mut u32,
 ) -> u32
-    ensures { λ r. ⌜ Compares (store (now (nodes .entry)) (now (children .entry)) (now (cuts .entry))) (now (index .entry)) variable NotEqual key r (now (id .exit)) (store (now (nodes .exit)) (now (children .exit)) (now (cuts .exit))) (now (index .exit)) ⌝ }
+    ensures { λ r. ⌜ Comes (comparison-of variable NotEqual key) (store (now (nodes .entry)) (now (children .entry)) (now (cuts .entry))) (now (index .entry)) [] r (now (id .exit)) (store (now (nodes .exit)) (now (children .exit)) (now (cuts .exit))) (now (index .exit)) [] ⌝ }
 {
     let op = Comparison::NotEqual;
     let a = conditions_calls::from_comparison(nodes, children, cuts, index, variable, op, key);
@@ -57,7 +59,7 @@ pub extern "C" fn spanwhistle_less_than(
     key: i32,
     id: &mut u32,
 ) -> u32
-    ensures { λ r. ⌜ Compares (store (now (nodes .entry)) (now (children .entry)) (now (cuts .entry))) (now (index .entry)) variable LessThan key r (now (id .exit)) (store (now (nodes .exit)) (now (children .exit)) (now (cuts .exit))) (now (index .exit)) ⌝ }
+    ensures { λ r. ⌜ Comes (comparison-of variable LessThan key) (store (now (nodes .entry)) (now (children .entry)) (now (cuts .entry))) (now (index .entry)) [] r (now (id .exit)) (store (now (nodes .exit)) (now (children .exit)) (now (cuts .exit))) (now (index .exit)) [] ⌝ }
 {
     let op = Comparison::LessThan;
     let a = conditions_calls::from_comparison(nodes, children, cuts, index, variable, op, key);
@@ -76,7 +78,7 @@ pub extern "C" fn spanwhistle_less_equal(
     key: i32,
     id: &mut u32,
 ) -> u32
-    ensures { λ r. ⌜ Compares (store (now (nodes .entry)) (now (children .entry)) (now (cuts .entry))) (now (index .entry)) variable LessEqual key r (now (id .exit)) (store (now (nodes .exit)) (now (children .exit)) (now (cuts .exit))) (now (index .exit)) ⌝ }
+    ensures { λ r. ⌜ Comes (comparison-of variable LessEqual key) (store (now (nodes .entry)) (now (children .entry)) (now (cuts .entry))) (now (index .entry)) [] r (now (id .exit)) (store (now (nodes .exit)) (now (children .exit)) (now (cuts .exit))) (now (index .exit)) [] ⌝ }
 {
     let op = Comparison::LessEqual;
     let a = conditions_calls::from_comparison(nodes, children, cuts, index, variable, op, key);
@@ -95,7 +97,7 @@ pub extern "C" fn spanwhistle_greater_than(
     key: i32,
     id: &mut u32,
 ) -> u32
-    ensures { λ r. ⌜ Compares (store (now (nodes .entry)) (now (children .entry)) (now (cuts .entry))) (now (index .entry)) variable GreaterThan key r (now (id .exit)) (store (now (nodes .exit)) (now (children .exit)) (now (cuts .exit))) (now (index .exit)) ⌝ }
+    ensures { λ r. ⌜ Comes (comparison-of variable GreaterThan key) (store (now (nodes .entry)) (now (children .entry)) (now (cuts .entry))) (now (index .entry)) [] r (now (id .exit)) (store (now (nodes .exit)) (now (children .exit)) (now (cuts .exit))) (now (index .exit)) [] ⌝ }
 {
     let op = Comparison::GreaterThan;
     let a = conditions_calls::from_comparison(nodes, children, cuts, index, variable, op, key);
@@ -114,7 +116,7 @@ pub extern "C" fn spanwhistle_greater_equal(
     key: i32,
     id: &mut u32,
 ) -> u32
-    ensures { λ r. ⌜ Compares (store (now (nodes .entry)) (now (children .entry)) (now (cuts .entry))) (now (index .entry)) variable GreaterEqual key r (now (id .exit)) (store (now (nodes .exit)) (now (children .exit)) (now (cuts .exit))) (now (index .exit)) ⌝ }
+    ensures { λ r. ⌜ Comes (comparison-of variable GreaterEqual key) (store (now (nodes .entry)) (now (children .entry)) (now (cuts .entry))) (now (index .entry)) [] r (now (id .exit)) (store (now (nodes .exit)) (now (children .exit)) (now (cuts .exit))) (now (index .exit)) [] ⌝ }
 {
     let op = Comparison::GreaterEqual;
     let a = conditions_calls::from_comparison(nodes, children, cuts, index, variable, op, key);
@@ -136,7 +138,7 @@ pub extern "C" fn spanwhistle_from_range(
     upper_key: i32,
     id: &mut u32,
 ) -> u32
-    ensures { λ r. ⌜ FromRange (store (now (nodes .entry)) (now (children .entry)) (now (cuts .entry))) (now (index .entry)) variable (boundOf «lower_kind» «lower_key») (boundOf «upper_kind» «upper_key») r (now (id .exit)) (store (now (nodes .exit)) (now (children .exit)) (now (cuts .exit))) (now (index .exit)) ⌝ }
+    ensures { λ r. ⌜ Comes (range-of variable (boundOf «lower_kind» «lower_key») (boundOf «upper_kind» «upper_key»)) (store (now (nodes .entry)) (now (children .entry)) (now (cuts .entry))) (now (index .entry)) [] r (now (id .exit)) (store (now (nodes .exit)) (now (children .exit)) (now (cuts .exit))) (now (index .exit)) [] ⌝ }
 {
     let lower = bound_of(lower_kind, lower_key);
     let upper = bound_of(upper_kind, upper_key);
@@ -155,7 +157,7 @@ pub extern "C" fn spanwhistle_from_bool(
     variable: u32,
     id: &mut u32,
 ) -> u32
-    ensures { λ r. ⌜ FromBool (store (now (nodes .entry)) (now (children .entry)) (now (cuts .entry))) (now (index .entry)) variable r (now (id .exit)) (store (now (nodes .exit)) (now (children .exit)) (now (cuts .exit))) (now (index .exit)) ⌝ }
+    ensures { λ r. ⌜ Comes (boolean-of variable) (store (now (nodes .entry)) (now (children .entry)) (now (cuts .entry))) (now (index .entry)) [] r (now (id .exit)) (store (now (nodes .exit)) (now (children .exit)) (now (cuts .exit))) (now (index .exit)) [] ⌝ }
 {
     let a = conditions_calls::from_bool(nodes, children, cuts, index, variable);
     *id = a.id.0;

@@ -1,7 +1,8 @@
 // What is asked of ids: conjunction, disjunction, disjointness, restriction, narrowing, widening. Each function returns the number of
 // document 01, and writes the id, which is 1 beside every number but 0, or for disjointness a word.
 ghost use Rattle.table.specs.Layout.{store};
-ghost use Rattle.kernel.specs.Makes.{Ands, Ors, Restricts, Narrows, Widens, Disjoints};
+ghost use Rattle.kernel.specs.Calls.{both-of, either-of, restriction-of, narrowing-of, widening-of};
+ghost use Rattle.kernel.specs.Makes.{Comes, Disjoints};
 ghost use Rattle.spanwhistle.specs.Numbers.{boundOf, isYes, Telling};
 use super::numbers::bound_of;
 use super::numbers::word_of;
@@ -22,7 +23,7 @@ pub extern "C" fn spanwhistle_and(
     y: u32,
     id: &mut u32,
 ) -> u32
-    ensures { λ r. ⌜ Ands (store (now (nodes .entry)) (now (children .entry)) (now (cuts .entry))) (now (index .entry)) (now (memo .entry)) x y r (now (id .exit)) (store (now (nodes .exit)) (now (children .exit)) (now (cuts .exit))) (now (index .exit)) (now (memo .exit)) ⌝ }
+    ensures { λ r. ⌜ Comes (both-of x y) (store (now (nodes .entry)) (now (children .entry)) (now (cuts .entry))) (now (index .entry)) (now (memo .entry)) r (now (id .exit)) (store (now (nodes .exit)) (now (children .exit)) (now (cuts .exit))) (now (index .exit)) (now (memo .exit)) ⌝ }
 {
     let a = joins_calls::and(nodes, children, cuts, index, memo, NodeId(x), NodeId(y));
     *id = a.id.0;
@@ -41,7 +42,7 @@ pub extern "C" fn spanwhistle_or(
     y: u32,
     id: &mut u32,
 ) -> u32
-    ensures { λ r. ⌜ Ors (store (now (nodes .entry)) (now (children .entry)) (now (cuts .entry))) (now (index .entry)) (now (memo .entry)) x y r (now (id .exit)) (store (now (nodes .exit)) (now (children .exit)) (now (cuts .exit))) (now (index .exit)) (now (memo .exit)) ⌝ }
+    ensures { λ r. ⌜ Comes (either-of x y) (store (now (nodes .entry)) (now (children .entry)) (now (cuts .entry))) (now (index .entry)) (now (memo .entry)) r (now (id .exit)) (store (now (nodes .exit)) (now (children .exit)) (now (cuts .exit))) (now (index .exit)) (now (memo .exit)) ⌝ }
 {
     let a = joins_calls::or(nodes, children, cuts, index, memo, NodeId(x), NodeId(y));
     *id = a.id.0;
@@ -79,7 +80,7 @@ pub extern "C" fn spanwhistle_restrict(
     value: u32,
     id: &mut u32,
 ) -> u32
-    ensures { λ r. ⌜ Restricts (store (now (nodes .entry)) (now (children .entry)) (now (cuts .entry))) (now (index .entry)) (now (memo .entry)) x variable (isYes value) r (now (id .exit)) (store (now (nodes .exit)) (now (children .exit)) (now (cuts .exit))) (now (index .exit)) (now (memo .exit)) ⌝ }
+    ensures { λ r. ⌜ Comes (restriction-of x variable (isYes value)) (store (now (nodes .entry)) (now (children .entry)) (now (cuts .entry))) (now (index .entry)) (now (memo .entry)) r (now (id .exit)) (store (now (nodes .exit)) (now (children .exit)) (now (cuts .exit))) (now (index .exit)) (now (memo .exit)) ⌝ }
 {
     // Any number is taken: a `bool` from C might have bits that are neither yes nor no, and there is no refusal for those.
     let yes = value != 0;
@@ -104,7 +105,7 @@ pub extern "C" fn spanwhistle_narrow(
     upper_key: i32,
     id: &mut u32,
 ) -> u32
-    ensures { λ r. ⌜ Narrows (store (now (nodes .entry)) (now (children .entry)) (now (cuts .entry))) (now (index .entry)) (now (memo .entry)) x variable (boundOf «lower_kind» «lower_key») (boundOf «upper_kind» «upper_key») r (now (id .exit)) (store (now (nodes .exit)) (now (children .exit)) (now (cuts .exit))) (now (index .exit)) (now (memo .exit)) ⌝ }
+    ensures { λ r. ⌜ Comes (narrowing-of x variable (boundOf «lower_kind» «lower_key») (boundOf «upper_kind» «upper_key»)) (store (now (nodes .entry)) (now (children .entry)) (now (cuts .entry))) (now (index .entry)) (now (memo .entry)) r (now (id .exit)) (store (now (nodes .exit)) (now (children .exit)) (now (cuts .exit))) (now (index .exit)) (now (memo .exit)) ⌝ }
 {
     let lower = bound_of(lower_kind, lower_key);
     let upper = bound_of(upper_kind, upper_key);
@@ -139,7 +140,7 @@ pub extern "C" fn spanwhistle_widen(
     upper_key: i32,
     id: &mut u32,
 ) -> u32
-    ensures { λ r. ⌜ Widens (store (now (nodes .entry)) (now (children .entry)) (now (cuts .entry))) (now (index .entry)) (now (memo .entry)) x variable (boundOf «lower_kind» «lower_key») (boundOf «upper_kind» «upper_key») r (now (id .exit)) (store (now (nodes .exit)) (now (children .exit)) (now (cuts .exit))) (now (index .exit)) (now (memo .exit)) ⌝ }
+    ensures { λ r. ⌜ Comes (widening-of x variable (boundOf «lower_kind» «lower_key») (boundOf «upper_kind» «upper_key»)) (store (now (nodes .entry)) (now (children .entry)) (now (cuts .entry))) (now (index .entry)) (now (memo .entry)) r (now (id .exit)) (store (now (nodes .exit)) (now (children .exit)) (now (cuts .exit))) (now (index .exit)) (now (memo .exit)) ⌝ }
 {
     let lower = bound_of(lower_kind, lower_key);
     let upper = bound_of(upper_kind, upper_key);

@@ -7,7 +7,7 @@ use Rattle.kernel.proofs.changes_calls.restrict.Statement.{statement}
 use Rattle.kernel.proofs.changes_calls.restrict.Tie as tie
 
 returns : tie.Need-returns
-returns c = ids-refused _ _ _ _ _ _ _ _ (λ u k. k .0) (λ u k. (k, k)) (c .before .before .before .before .before .before .before .before .is-variable .ensures) (c .before .before .before .admit-ids .ensures) (c .before .if1 .taken) (c .refused .ensures)
+returns c = (tt, ids-refused _ _ _ _ _ _ _ _ (λ u k. k .0) (λ u k. (k, k)) (c .before .before .before .before .before .before .before .before .is-variable .ensures) (c .before .before .before .admit-ids .ensures) (c .before .if1 .taken) (c .refused .ensures))
 
 restrict-requires : tie.Need-restrict-requires
 restrict-requires c κs =
@@ -20,7 +20,7 @@ clear-requires c κs = c .before .before .before .before .before .before .before
 returns-2 : tie.Need-returns-2
 returns-2 c =
     let args· = c .before .before .before .before .before .before .before .before .before .before .before .before .before .before .before .before .before .before .before .before .before .before .before .before .before .before .before .before .before .before .before .before .before .before .before .before .before .before .args in
-    ids-answered _ _ _ _ _ _ _ _ (λ u k. k .0) (λ u k. (k, k)) (c .before .before .before .before .before .before .before .before .before .before .before .before .before .before .before .before .before .before .before .before .before .before .before .before .before .before .before .before .before .before .before .before .before .is-variable .ensures) (c .before .before .before .before .before .before .before .before .before .before .before .before .before .before .before .before .before .before .before .before .before .before .before .before .before .before .before .before .admit-ids .ensures) (c .before .before .before .before .before .before .before .before .before .before .before .before .before .before .before .before .before .before .before .before .before .before .before .before .before .before .if1 .left) (c .before .before .before .before .before .before .before .before .before .before .before .before .before .before .before .before .before .before .before .before .before .before .before .wipe .ensures) (c .before .before .before .before .before .before .before .before .before .before .before .before .before .before .restrict .ensures) (c .before .before .before .clear .ensures) (same-restrict _ (args· .value) (args· .id .0) (c .before .before .before .before .before .before .before .before .before .before .before .before .before .before .before .wide .ensures .0)) (c .answer-of .ensures)
+    (tt, ids-answered _ _ _ _ _ _ _ _ (λ u k. k .0) (λ u k. (k, k)) (c .before .before .before .before .before .before .before .before .before .before .before .before .before .before .before .before .before .before .before .before .before .before .before .before .before .before .before .before .before .before .before .before .before .is-variable .ensures) (c .before .before .before .before .before .before .before .before .before .before .before .before .before .before .before .before .before .before .before .before .before .before .before .before .before .before .before .before .admit-ids .ensures) (c .before .before .before .before .before .before .before .before .before .before .before .before .before .before .before .before .before .before .before .before .before .before .before .before .before .before .if1 .left) (c .before .before .before .before .before .before .before .before .before .before .before .before .before .before .before .before .before .before .before .before .before .before .before .wipe .ensures) (c .before .before .before .before .before .before .before .before .before .before .before .before .before .before .restrict .ensures) (c .before .before .before .clear .ensures) (same-restrict _ (args· .value) (args· .id .0) (c .before .before .before .before .before .before .before .before .before .before .before .before .before .before .before .wide .ensures .0)) (c .answer-of .ensures))
 
 pub restrict-spec : {M : Type 1} → statement M
 restrict-spec =

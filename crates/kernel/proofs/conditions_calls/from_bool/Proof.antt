@@ -6,7 +6,7 @@ use Rattle.kernel.proofs.conditions_calls.from_bool.Statement.{statemen
 use Rattle.kernel.proofs.conditions_calls.from_bool.Tie as tie
 
 returns : tie.Need-returns
-returns c = condition-refused _ _ _ _ (c .before .before .before .before .is-boolean .ensures) (c .before .before .before .admit .ensures) (c .before .if1 .taken) (c .refused .ensures)
+returns c = (tt, condition-refused _ _ _ _ (c .before .before .before .before .is-boolean .ensures) (c .before .before .before .admit .ensures) (c .before .if1 .taken) (c .refused .ensures))
 
 from-bool-requires : tie.Need-from-bool-requires
 from-bool-requires c κs =
@@ -14,7 +14,7 @@ from-bool-requires c κs =
     (x .0, omega (arith, (c .wide .ensures .0), x .1 .0), omega (arith, (c .wide .ensures .0), x .1 .1))
 
 returns-2 : tie.Need-returns-2
-returns-2 c = condition-answered _ _ _ _ (admitted-lent (c .before .before .before .before .before .before .before .before .before .before .before .before .before .before .before .before .before .before .is-boolean .ensures) (c .before .before .before .before .before .before .before .before .before .before .before .before .before .before .before .before .before .admit .ensures) (c .before .before .before .before .before .before .before .before .before .before .before .before .before .before .before .if1 .left)) (c .before .before .before .before .before .before .before .before .from-bool .ensures) (same-bool _ (c .before .before .before .before .before .before .before .before .before .wide .ensures .0)) (c .answer-of .ensures)
+returns-2 c = (tt, condition-answered _ _ _ _ (admitted-lent (c .before .before .before .before .before .before .before .before .before .before .before .before .before .before .before .before .before .before .is-boolean .ensures) (c .before .before .before .before .before .before .before .before .before .before .before .before .before .before .before .before .before .admit .ensures) (c .before .before .before .before .before .before .before .before .before .before .before .before .before .before .before .if1 .left)) (c .before .before .before .before .before .before .before .before .from-bool .ensures) (same-bool _ (c .before .before .before .before .before .before .before .before .before .wide .ensures .0)) (c .answer-of .ensures))
 
 pub from-bool-spec : {M : Type 1} → statement M
 from-bool-spec =

@@ -2,16 +2,15 @@
 use native.Mathlib.Omega.{arith}
 use borrow.Author.Tests.{not-true, not-false}
 use Rattle.table.proofs.Laws.{decided-true, decided-false}
-use Rattle.table.proofs.Hearing.{passed-check-sound}
+use Rattle.table.specs.Told.{reply-3, reply-0}
+use Rattle.table.proofs.Hearing.{passed-check-sound, check-refuses}
 use Rattle.disjointness.proofs.Whole.{sound-asked, sound-answer}
-use Rattle.kernel.specs.Makes.{disjoint-3}
-use Rattle.kernel.proofs.Handing.{check-says-no, disjoint-it}
 use borrow.Author.Needs.{needs}
 use Rattle.kernel.proofs.disjointness_calls.is_disjoint.Statement.{statement}
 use Rattle.kernel.proofs.disjointness_calls.is_disjoint.Tie as tie
 
 returns : tie.Need-returns
-returns c = check-says-no _ _ _ _ (c .before .before .check .ensures) (c .if1 .taken)
+returns c = check-refuses _ _ (λ a. a) (λ a. a) (c .before .before .check .ensures) (c .if1 .taken)
 
 both-known-requires : tie.Need-both-known-requires
 both-known-requires c κs =
@@ -21,7 +20,7 @@ both-known-requires c κs =
 returns-2 : tie.Need-returns-2
 returns-2 c =
     let p = passed-check-sound _ _ (c .before .before .before .before .check .ensures) (c .before .before .if1 .left) in
-    disjoint-3 (p .0) _ (p .1) (decided-false (c .before .both-known .ensures) (not-true _ (c .if2 .taken)))
+    reply-3 (p .0) _ (p .1) (decided-false (c .before .both-known .ensures) (not-true _ (c .if2 .taken)))
 
 is-disjoint-requires : tie.Need-is-disjoint-requires
 is-disjoint-requires c κs =
@@ -32,7 +31,7 @@ is-disjoint-requires c κs =
 returns-3 : tie.Need-returns-3
 returns-3 c =
     let p = passed-check-sound _ _ (c .before .before .before .before .before .check .ensures) (c .before .before .before .if1 .left) in
-    disjoint-it _ _ _ _ (p .0) (p .1) (decided-true (c .before .before .both-known .ensures) (not-false _ (c .before .if2 .left))) (sound-answer (p .1) _ _ (c .is-disjoint .ensures))
+    rw (sound-answer (p .1) _ _ (c .is-disjoint .ensures)) (reply-0 (p .0) _ (p .1) (decided-true (c .before .before .both-known .ensures) (not-false _ (c .before .if2 .left))) tt)
 
 pub is-disjoint-spec : {M : Type 1} → statement M
 is-disjoint-spec =

@@ -8,7 +8,7 @@ use Rattle.kernel.proofs.joins_calls.or.Statement.{statement}
 use Rattle.kernel.proofs.joins_calls.or.Tie as tie
 
 returns : tie.Need-returns
-returns c = ids-refused _ _ _ _ _ _ _ _ (λ u k. k) (λ u k. k) asks-none (c .before .before .before .admit-ids .ensures) (c .before .if1 .taken) (c .refused .ensures)
+returns c = (tt, ids-refused _ _ _ _ _ _ _ _ (λ u k. k) (λ u k. k) asks-none (c .before .before .before .admit-ids .ensures) (c .before .if1 .taken) (c .refused .ensures))
 
 or-requires : tie.Need-or-requires
 or-requires c κs =
@@ -20,7 +20,7 @@ clear-requires : tie.Need-clear-requires
 clear-requires c κs = c .before .before .before .before .before .before .before .before .before .before .or .ensures .worked .framed
 
 returns-2 : tie.Need-returns-2
-returns-2 c = ids-answered _ _ _ _ _ _ _ _ (λ u k. k) (λ u k. k) asks-none (c .before .before .before .before .before .before .before .before .before .before .before .before .before .before .before .before .before .before .before .before .before .before .before .before .before .before .before .admit-ids .ensures) (c .before .before .before .before .before .before .before .before .before .before .before .before .before .before .before .before .before .before .before .before .before .before .before .before .before .if1 .left) (c .before .before .before .before .before .before .before .before .before .before .before .before .before .before .before .before .before .before .before .before .before .before .wipe .ensures) (c .before .before .before .before .before .before .before .before .before .before .before .before .before .before .or .ensures .worked) (c .before .before .before .clear .ensures) refl (c .answer-of .ensures)
+returns-2 c = (tt, ids-answered _ _ _ _ _ _ _ _ (λ u k. k) (λ u k. k) asks-none (c .before .before .before .before .before .before .before .before .before .before .before .before .before .before .before .before .before .before .before .before .before .before .before .before .before .before .before .admit-ids .ensures) (c .before .before .before .before .before .before .before .before .before .before .before .before .before .before .before .before .before .before .before .before .before .before .before .before .before .if1 .left) (c .before .before .before .before .before .before .before .before .before .before .before .before .before .before .before .before .before .before .before .before .before .before .wipe .ensures) (c .before .before .before .before .before .before .before .before .before .before .before .before .before .before .or .ensures .worked) (c .before .before .before .clear .ensures) refl (c .answer-of .ensures))
 
 pub or-spec : {M : Type 1} → statement M
 or-spec =
