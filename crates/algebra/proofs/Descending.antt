@@ -102,9 +102,6 @@ module _ (n : ℕ) (t : Table) (z : Sound t) (v : ℕ) (hv : v < variables) (w i
   pub bottom-rising : Rising 0 (topOf v) bottom
   bottom-rising = edges-rising t z v (descend n t v α id) hv bottom-child
 
-  pub bottom-kids : Each (Child t (suc v)) bottom
-  bottom-kids = edges-are-kids t z v (descend n t v α id) hv bottom-child .kids
-
   pub bottom-at : (p : ℕ) → value t α (select bottom p) ≡ value t (upd α v p) id
   bottom-at p = sym (value-edge t z v (descend n t v α id) hv bottom-child α p) ∙ descend-value n t z v hv α (upd α v p) (λ i l. upd-other α v p i (omega arith)) id (k .0)
 

@@ -7,7 +7,6 @@ use native.Mathlib.Omega.{arith}
 use native.Mathlib.Decide.{ℕ-discrete}
 use lib.Dec.{ltb}
 use lib.ListN.{length}
-use lib.IntN.{ℤ}
 use borrow.Author.Tests.{lt-ltb, le-ltb}
 use Rattle.ids.specs.Id.{FALSE, ref, KnownTo}
 use Rattle.ids.specs.declared.NodeId.{NodeId}
@@ -37,8 +36,8 @@ use Rattle.making.specs.Building.{Building, piecesOf}
 use Rattle.making.specs.Outcome.{Lent, Outcome, Buildable, tableOf}
 use Rattle.making.proofs.Kept.{stays-refl}
 use Rattle.views.specs.declared.View.{View}
-use Rattle.views.specs.Seeing.{Readable, Inside, Views, seen}
-use Rattle.views.proofs.Sights.{sound-readable, known-held, views-inside, seen-count}
+use Rattle.views.specs.Seeing.{Inside, Views, seen}
+use Rattle.views.proofs.Sights.{known-held, views-inside, seen-count}
 use Rattle.walks.proofs.Composing.{lent-sound, lent-readable}
 use Rattle.clipping.specs.declared.Clip.{Clip}
 use Rattle.clipping.specs.Clipping.{Clips}

@@ -5,7 +5,6 @@ use mathlib.Core.List.{List}
 use Prim.Native.Nat.{ℕ, suc, _+_, _-_, _≤_, _<_}
 use native.Mathlib.Omega.{arith}
 use lib.ListN.{length, set}
-use lib.IntN.{ℤ}
 use borrow.Author.Tests.{not-false, not-true}
 use Rattle.ids.specs.Id.{TRUE, ref}
 use Rattle.ids.specs.declared.NodeId.{NodeId}

@@ -8,11 +8,10 @@ use native.Mathlib.Omega.{arith}
 use native.Mathlib.Decide.{ℕ-discrete}
 use lib.ListN.{length, getD, set, length-set}
 use lib.Seq.{getD-set-same, getD-set-other}
-use lib.IntN.{ℤ}
 use borrow.Author.Tests.{lt-ltb, le-ltb}
 use Rattle.ids.specs.Id.{TRUE}
 use Rattle.diagram.specs.Pieces.{Pieces}
-use Rattle.diagram.specs.Shape.{Each, Rising, Reduced, run}
+use Rattle.diagram.specs.Shape.{Each, Rising, run}
 use Rattle.diagram.specs.Table.{variables, firstBoolean, isRange, topOf, Table, Assignment, Continues, mostEdges}
 use Rattle.diagram.specs.Room.{Fits}
 use Rattle.diagram.specs.Sound.{Known, Child, Sound}
@@ -32,7 +31,7 @@ use Rattle.making.specs.declared.edges.Edge.{Edge}
 use Rattle.making.specs.declared.edges.Edges as built
 use Rattle.making.specs.declared.nodes.Used.{Used}
 use Rattle.making.specs.declared.nodes.Made as code
-use Rattle.making.specs.Building.{Building, none, childIn, cutIn, piecesOf}
+use Rattle.making.specs.Building.{none, childIn, cutIn, piecesOf}
 use Rattle.making.specs.Outcome.{Lent, Stays, Outcome, Mergeable, tableOf}
 use Rattle.making.proofs.Kept.{stays-refl, stays-trans, stays-continues}
 use Rattle.memo.specs.Recalling.{Framed}

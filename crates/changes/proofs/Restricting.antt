@@ -5,7 +5,6 @@ use mathlib.Core.List.{List}
 use Prim.Native.Nat.{ℕ, _-_, _≤_, _<_}
 use native.Mathlib.Omega.{arith}
 use native.Mathlib.Decide.{ℕ-discrete}
-use lib.IntN.{ℤ}
 use Rattle.ids.specs.Id.{ref, KnownTo}
 use Rattle.diagram.specs.Pieces.{Pieces, select}
 use Rattle.diagram.specs.Shape.{Rising}

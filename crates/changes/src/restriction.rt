@@ -1,6 +1,5 @@
 // Restriction of one boolean to a value. Document 01, step 7; `restrict` of the source, whose closure is the variable and the value.
-ghost use mathlib.Core.Path.{_≡_};
-ghost use Prim.Native.Nat.{_*_, _≤_, _<_};
+ghost use Prim.Native.Nat.{_≤_, _<_};
 ghost use lib.ListN.{length};
 ghost use Rattle.ids.specs.Id.{KnownTo};
 ghost use Rattle.diagram.specs.Table.{firstBoolean, variables};

@@ -2,7 +2,7 @@
 // children became.
 ghost use mathlib.Core.Path.{_≡_};
 ghost use mathlib.Core.Bool.{true, false, cond};
-ghost use Prim.Native.Nat.{_+_, _-_, _*_, _≤_, _<_};
+ghost use Prim.Native.Nat.{_+_, _-_, _≤_, _<_};
 ghost use lib.ListN.{length};
 ghost use Rattle.diagram.specs.Table.{isRange};
 ghost use Rattle.table.specs.Layout.{room, MemoLengths, store};

@@ -1,11 +1,11 @@
 // Widening for one range variable. Document 01, step 9; `complexify_python_versions` of the source.
 ghost use mathlib.Core.Path.{_≡_};
 ghost use mathlib.Core.Bool.{true, false};
-ghost use Prim.Native.Nat.{_*_, _≤_, _<_};
+ghost use Prim.Native.Nat.{_≤_, _<_};
 ghost use lib.ListN.{length};
 ghost use Rattle.ids.specs.Id.{KnownTo};
 ghost use Rattle.ranges.specs.Line.{top};
-ghost use Rattle.diagram.specs.Table.{firstBoolean, variables};
+ghost use Rattle.diagram.specs.Table.{firstBoolean};
 ghost use Rattle.diagram.specs.Cofactor.{edgesOf};
 ghost use Rattle.algebra.specs.Making.{create-node};
 ghost use Rattle.algebra.specs.Changing.{isBefore, widen as widens};

@@ -2,7 +2,6 @@
 use mathlib.Core.Path.{_≡_, _∙_, ap}
 use mathlib.Core.List.{List}
 use Prim.Native.Nat.{ℕ}
-use lib.IntN.{ℤ}
 use Rattle.ids.specs.Id.{flip}
 use Rattle.ids.specs.declared.NodeId.{NodeId}
 use Rattle.diagram.specs.Table.{Table}

@@ -78,9 +78,6 @@ pub flipped-flipped : (s : ℕ) (b : Bool) → flipped s (flipped s b) ≡ b
 flipped-flipped zero b = refl
 flipped-flipped (suc s) b = Bool·not-not b
 
-pub flipped-inj : (s : ℕ) (a b : Bool) → flipped s a ≡ flipped s b → a ≡ b
-flipped-inj s a b e = sym (flipped-flipped s a) ∙ ap (flipped s) e ∙ flipped-flipped s b
-
 -- whatever the truth of refs, flipping an id flips its own
 pub signed-flip : (f : ℕ → Bool) (id : ℕ) → signed (flip id) (f (ref (flip id))) ≡ not (signed id (f (ref id)))
 signed-flip f id = rw (ref-flip id, sign-flip id) (not-flipped (sign id) (f (ref id)) (omega arith))

@@ -20,10 +20,6 @@ module _ {A : Type 0} where
   count-pos (last a) = omega arith
   count-pos (cut a k e) = omega arith
 
-  pub rising-le : (b t : ℕ) (e : Pieces A) → Rising b t e → b ≤ t
-  rising-le b t (last a) h = h
-  rising-le b t (cut a k e) h = omega arith
-
   pub reduced-rising : (b t : ℕ) (e : Pieces A) → Reduced b t e → Rising b t e
   reduced-rising b t (last a) h = h
   reduced-rising b t (cut a k e) h = (h .0, h .1, reduced-rising k t e (h .3))

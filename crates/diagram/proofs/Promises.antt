@@ -8,11 +8,11 @@ use Prim.Native.Nat.{ℕ, zero, suc, _≤_, _<_}
 use native.Mathlib.Omega.{arith}
 use lib.ListN.{length}
 use borrow.Author.Tests.{le-ltb}
-use Rattle.ids.specs.Id.{TRUE, FALSE, sign, ref, flip}
+use Rattle.ids.specs.Id.{sign, ref, flip}
 use Rattle.ranges.specs.Line.{Place, lowest}
 use Rattle.diagram.specs.Pieces.{Pieces, last, cut}
 use Rattle.diagram.specs.Shape.{count, Reduced}
-use Rattle.diagram.specs.Table.{firstBoolean, isRange, Table, at, Assignment, flipped, value, Continues}
+use Rattle.diagram.specs.Table.{firstBoolean, isRange, Table, at, flipped, value, Continues}
 use Rattle.diagram.specs.Sound.{Known, Sound}
 use Rattle.diagram.specs.Reading.{Reading, positions, says, everywhere}
 use Rattle.diagram.specs.Ordered.{Diagram, Ordered, Tells, Reached, edges, diagramOf}

@@ -5,7 +5,6 @@ use mathlib.Core.Logic.{_⊎_, inl, inr, ⊎-elim}
 use mathlib.Core.List.{List}
 use Prim.Native.Nat.{ℕ, _-_, _≤_}
 use native.Mathlib.Omega.{arith}
-use lib.IntN.{ℤ}
 use Rattle.diagram.specs.Pieces.{Pieces, last}
 use Rattle.diagram.specs.Table.{firstBoolean, Table}
 use Rattle.algebra.specs.Disjointness.{disjoint}

@@ -10,9 +10,6 @@ ref-flip id = omega arith
 pub sign-flip : (id : ℕ) → sign (flip id) ≡ 1 - sign id
 sign-flip id = omega arith
 
-pub flip-flip : (id : ℕ) → flip (flip id) ≡ id
-flip-flip id = omega arith
-
 pub under-inj : (s x y : ℕ) → under s x ≡ under s y → x ≡ y
 under-inj zero x y e = e
 under-inj (suc s) x y e = omega arith

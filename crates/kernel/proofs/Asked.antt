@@ -19,7 +19,7 @@ use Rattle.algebra.specs.Narrowing.{AtNearest, Steady, EmptyAnswer}
 use Rattle.algebra.proofs.Emptied.{Changing, not-steady, steady-or-changing}
 use Rattle.algebra.proofs.Promises.{from-range-answers, comparison-answers, from-bool-answers, and-answers, or-answers, restrict-answers, restrict-range, empty-or-nearest, nearest-says-once, narrow-answers, narrow-empty-answers, widen-answers}
 use Rattle.table.proofs.Laws.{lt-or-le}
-use Rattle.kernel.specs.Calls.{Call, range-of, comparison-of, boolean-of, both-of, either-of, restriction-of, narrowing-of, widening-of, row, BothKeyed}
+use Rattle.kernel.specs.Calls.{Call, range-of, comparison-of, boolean-of, both-of, either-of, restriction-of, narrowing-of, widening-of, row}
 
 -- an answer that says the same is an answer
 answers-as : {t : Table} {m m′ : Reading → Bool} {out : Table × ℕ} → Answers t m′ out → ((ρ : Reading) → m ρ ≡ m′ ρ) → Answers t m out

@@ -4,7 +4,6 @@ use mathlib.Core.Bool.{Bool, true, false, cond}
 use mathlib.Core.List.{List}
 use Prim.Native.Nat.{ℕ}
 use lib.ListN.{length, replicate}
-use lib.IntN.{ℤ}
 use Rattle.ids.specs.Id.{FALSE}
 use Rattle.diagram.specs.Table.{Table}
 use Rattle.diagram.specs.Room.{Fits}

@@ -1,13 +1,12 @@
 -- What a reader of the demands looks for of the public calls, on the words that are lent: what each number means, what a refusal leaves, what
 -- the check promises of ids. Assumes nothing.
-use mathlib.Core.Path.{_≡_, refl, sym, _∙_, subst}
+use mathlib.Core.Path.{_≡_, refl, sym, subst}
 use mathlib.Core.Bool.{Bool, true, false, _&&_}
 use mathlib.Core.List.{List}
 use mathlib.Core.Logic.{_↔_, _⊎_, inl, inr}
-use Prim.Native.Nat.{ℕ, _≤_, _<_}
+use Prim.Native.Nat.{ℕ, _≤_}
 use native.Mathlib.Omega.{arith}
 use lib.ListN.{length, replicate}
-use lib.IntN.{ℤ}
 use Rattle.ids.specs.Id.{FALSE, ref, KnownTo}
 use Rattle.diagram.specs.Table.{Table, Continues}
 use Rattle.diagram.specs.Sound.{Known}
@@ -18,13 +17,13 @@ use Rattle.diagram.proofs.Continuing.{continues-length}
 use Rattle.diagram.proofs.Promises.{old-ids-say-the-same, equal-when-they-agree, no-smaller-diagram}
 use Rattle.algebra.specs.Answering.{Answers, Answerable}
 use Rattle.algebra.proofs.Promises.{disjoint-exactly, fits-exactly}
-use Rattle.table.specs.Layout.{room, MemoLengths, Store}
+use Rattle.table.specs.Layout.{room, Store}
 use Rattle.table.specs.Lent.{SoundLent}
 use Rattle.table.specs.Held.{held}
 use Rattle.table.specs.Told.{done, Checks, reply-1, reply-2, reply-3, reply-5, reply-0}
 use Rattle.table.proofs.Once.{sound-once}
-use Rattle.table.proofs.Promises.{holds-a-sound-table, fits-its-room, counts-what-is-held}
-use Rattle.kernel.specs.Calls.{Call, row, Lending}
+use Rattle.table.proofs.Promises.{holds-a-sound-table, counts-what-is-held}
+use Rattle.kernel.specs.Calls.{Call, row}
 use Rattle.kernel.specs.Makes.{Leaves, Makes, made-1, made-2, made-3, made-4, made-6, made-0, Comes, Disjoints}
 use Rattle.kernel.specs.Meaning.{Answered, LentAnswer, DoneOrNoRoom}
 use Rattle.kernel.proofs.Admitted.{check-lends}

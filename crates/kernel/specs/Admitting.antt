@@ -3,7 +3,6 @@ use mathlib.Core.Path.{_≡_}
 use mathlib.Core.Bool.{Bool, true, false}
 use mathlib.Core.List.{List}
 use Prim.Native.Nat.{ℕ}
-use lib.IntN.{ℤ}
 use Rattle.table.specs.Layout.{room, MemoLengths, Store}
 use Rattle.table.specs.Told.{done, wrongRoom, unknownId, Checks}
 use Rattle.making.specs.declared.nodes.Used.{Used}

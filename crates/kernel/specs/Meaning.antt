@@ -5,7 +5,6 @@ use mathlib.Core.List.{List}
 use mathlib.Core.Logic.{_⊎_}
 use Prim.Native.Nat.{ℕ, _≤_, _<_}
 use lib.ListN.{length}
-use lib.IntN.{ℤ}
 use Rattle.ids.specs.Id.{ref, KnownTo}
 use Rattle.diagram.specs.Table.{Table, Continues}
 use Rattle.diagram.specs.Reading.{Reading, says}

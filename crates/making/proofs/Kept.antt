@@ -6,7 +6,6 @@ use Prim.Native.Nat.{ℕ, zero, suc, _≤_}
 use native.Mathlib.Omega.{arith}
 use native.Mathlib.Nat.{eq-or-lt-of-le}
 use lib.ListN.{length}
-use lib.IntN.{ℤ}
 use Rattle.diagram.specs.Table.{Table, Continues, same, more}
 use Rattle.table.specs.Layout.{Lengths, Store}
 use Rattle.table.specs.Held.{nodeAt, held}

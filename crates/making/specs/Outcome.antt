@@ -4,7 +4,6 @@ use mathlib.Core.Bool.{true, false}
 use mathlib.Core.List.{List, _∷_}
 use Prim.Native.Nat.{ℕ, suc, _*_, _≤_, _<_}
 use lib.ListN.{length, getD}
-use lib.IntN.{ℤ}
 use Rattle.diagram.specs.Pieces.{last, cut}
 use Rattle.diagram.specs.Shape.{Each, Rising, Reduced}
 use Rattle.diagram.specs.Table.{variables, topOf, Node, Table}

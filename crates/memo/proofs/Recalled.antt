@@ -5,7 +5,7 @@ use mathlib.Core.Logic.{_⊎_, inl, inr}
 use Prim.Native.Nat.{ℕ, _+_, _*_, _/_, _%_, _≤_, _<_}
 use native.Mathlib.Omega.{arith}
 use native.Mathlib.Decide.{ℕ-discrete}
-use lib.ListN.{length, getD, set, replicate, length-set, length-replicate}
+use lib.ListN.{length, getD, set, replicate, length-set}
 use lib.Seq.{getD-set-same, getD-set-other}
 use Rattle.table.proofs.Promises.{no-word}
 use Rattle.memo.specs.Recalling.{firstOf, secondOf, answerOf, Tells, setsIn, Framed, Memo, Ordered, as-given, turned, Found, Hit, Put, Was, silent, stood, new, Kept, Readied, Noted}

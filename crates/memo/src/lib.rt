@@ -6,7 +6,7 @@
 ghost use mathlib.Core.Path.{_≡_};
 ghost use mathlib.Core.Bool.{true};
 ghost use Prim.Native.Nat.{_+_, _*_, _/_, _≤_, _<_};
-ghost use lib.ListN.{length, getD, replicate};
+ghost use lib.ListN.{length, replicate};
 ghost use Rattle.diagram.specs.Table.{variables};
 ghost use Rattle.table.specs.Layout.{mostNodes};
 ghost use Rattle.memo.specs.Recalling.{ids, setsIn, Tells, Framed, Ordered, Found, Hit, Put, Kept, Readied, Noted};

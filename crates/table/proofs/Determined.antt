@@ -7,7 +7,7 @@ use Prim.Native.Nat.{ℕ, zero, suc, _+_, _-_, _*_, _/_, _%_, _≤_, _<_}
 use native.Mathlib.Omega.{arith}
 use lib.ListN.{length, getD}
 use lib.Seq.{ext-getD}
-use lib.IntN.{ℤ, pos}
+use lib.IntN.{pos}
 use Rattle.diagram.specs.Pieces.{Pieces, last, cut}
 use Rattle.diagram.specs.Shape.{count}
 use Rattle.diagram.specs.Table.{Node, Table, at}

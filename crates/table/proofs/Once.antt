@@ -3,7 +3,6 @@ use mathlib.Core.Path.{_≡_}
 use mathlib.Core.List.{List}
 use Prim.Native.Nat.{ℕ, _+_, _*_, _<_}
 use native.Mathlib.Omega.{arith}
-use lib.IntN.{ℤ}
 use Rattle.table.specs.Lent.{SoundRecords, SoundLent}
 use Rattle.table.proofs.Laws.{Order, less, equal, more, lt-eq-or-gt}
 use Rattle.table.specs.Layout.{Store}

@@ -5,7 +5,6 @@ use mathlib.Core.List.{List}
 use Prim.Native.Nat.{ℕ, suc, _+_, _≤_, _<_}
 use native.Mathlib.Omega.{arith}
 use lib.ListN.{length}
-use lib.IntN.{ℤ}
 use Rattle.diagram.specs.Pieces.{Pieces, last, cut}
 use Rattle.diagram.specs.Table.{variables, firstBoolean, Table}
 use Rattle.diagram.specs.Sound.{Child}

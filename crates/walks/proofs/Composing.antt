@@ -5,8 +5,7 @@ use mathlib.Core.List.{List}
 use Prim.Native.Nat.{ℕ, _*_, _/_, _≤_, _<_}
 use native.Mathlib.Omega.{arith}
 use lib.ListN.{length}
-use lib.IntN.{ℤ}
-use Rattle.ids.specs.Id.{ref, KnownTo}
+use Rattle.ids.specs.Id.{KnownTo}
 use Rattle.ids.specs.declared.NodeId.{NodeId}
 use Rattle.diagram.specs.Table.{variables, Table, Continues}
 use Rattle.diagram.specs.Sound.{Sound}
@@ -20,8 +19,8 @@ use Rattle.making.specs.declared.nodes.Made.{Made}
 use Rattle.making.specs.Outcome.{Lent, Outcome, tableOf}
 use Rattle.making.proofs.Kept.{stays-refl, stays-trans, stays-continues}
 use Rattle.making.proofs.Taken.{cuts-as-long, index-as-long}
-use Rattle.views.specs.Seeing.{Readable, Asked}
-use Rattle.views.proofs.Sights.{sound-readable, known-held}
+use Rattle.views.specs.Seeing.{Readable}
+use Rattle.views.proofs.Sights.{sound-readable}
 use Rattle.memo.specs.Recalling.{Framed, Noted}
 use Rattle.memo.proofs.Recalled.{noted-true, memo-still}
 use Rattle.walks.specs.Walking.{Note, Ready, Stepped}

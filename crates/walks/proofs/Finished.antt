@@ -2,9 +2,8 @@
 use mathlib.Core.Path.{_≡_, refl, sym, _∙_, ap, subst}
 use mathlib.Core.Bool.{Bool, true, false}
 use mathlib.Core.List.{List}
-use Prim.Native.Nat.{ℕ, _*_}
-use lib.ListN.{length, replicate}
-use lib.IntN.{ℤ}
+use Prim.Native.Nat.{ℕ}
+use lib.ListN.{length}
 use Rattle.ids.specs.declared.NodeId.{NodeId}
 use Rattle.diagram.specs.Table.{Table}
 use Rattle.table.specs.Layout.{room, MemoLengths, Store}

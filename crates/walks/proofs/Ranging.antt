@@ -2,10 +2,9 @@
 use mathlib.Core.Path.{_≡_, refl, sym, _∙_, ap, ap₂, subst}
 use mathlib.Core.Bool.{Bool, true, false, cond}
 use mathlib.Core.List.{List}
-use mathlib.Core.Logic.{_⊎_, inl, inr, ⊎-elim}
+use mathlib.Core.Logic.{_⊎_, ⊎-elim}
 use Prim.Native.Nat.{ℕ, suc, _+_, _-_, _/_, _≤_, _<_}
 use native.Mathlib.Omega.{arith}
-use native.Mathlib.Decide.{ℕ-discrete}
 use lib.Dec.{ltb}
 use lib.ListN.{length, set, length-set}
 use lib.Seq.{getD-set-same, getD-set-other}
@@ -25,7 +24,7 @@ use Rattle.algebra.proofs.Overlays.{rising-overlay, each-overlay, reduced-merge
 use Rattle.algebra.proofs.Walking.{Walked, walk-makes-each}
 use Rattle.table.specs.Layout.{room, Store}
 use Rattle.table.proofs.Laws.{lt-or-le, not-false-and-true}
-use Rattle.merging.proofs.Gluing.{Slot, next, again, Put}
+use Rattle.merging.proofs.Gluing.{Slot, Put}
 use Rattle.merging.proofs.Stepping.{Going, going-none, going-less, going-same, going-more, going-last-cut, going-cut-last, going-ends-whole, going-below-count}
 use Rattle.merging.proofs.Fitting.{not-fits-too-wide, not-fits-child-full}
 use Rattle.views.specs.declared.View.{View}

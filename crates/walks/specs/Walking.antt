@@ -2,23 +2,20 @@
 use mathlib.Core.Path.{_≡_}
 use mathlib.Core.Bool.{Bool, true, false}
 use mathlib.Core.List.{List}
-use Prim.Native.Nat.{ℕ, suc, _+_, _*_, _<_, _≤_}
+use Prim.Native.Nat.{ℕ, suc, _+_, _<_, _≤_}
 use lib.Dec.{ltb}
-use lib.ListN.{length, replicate}
+use lib.ListN.{length}
 use lib.IntN.{ℤ}
-use Rattle.ids.specs.Id.{TRUE}
 use Rattle.diagram.specs.Pieces.{Pieces}
 use Rattle.diagram.specs.Shape.{Each, Rising}
 use Rattle.diagram.specs.Table.{variables, topOf, Table, mostEdges}
 use Rattle.diagram.specs.Sound.{Child}
 use Rattle.algebra.specs.Overlay.{overlay}
-use Rattle.algebra.specs.Making.{create-node}
 use Rattle.algebra.specs.Conjunction.{walkIn, create-over}
 use Rattle.table.specs.Layout.{room, MemoLengths, Store}
 use Rattle.making.specs.declared.edges.Edges as built
 use Rattle.making.specs.declared.nodes.Used.{Used}
 use Rattle.making.specs.declared.nodes.Made.{Made}
-use Rattle.making.specs.Building.{Building, piecesOf}
 use Rattle.making.specs.Outcome.{Lent, Outcome, Untouched, Creates, TakenBack, tableOf}
 use Rattle.views.specs.declared.View.{View}
 use Rattle.views.specs.Seeing.{beyond, seen, Inside}

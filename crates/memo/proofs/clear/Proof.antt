@@ -1,10 +1,9 @@
 -- `clear` zeroes the sets in use; behind them lies nothing. Assumes nothing.
 use mathlib.Core.Path.{_≡_, refl, _∙_}
-use Prim.Native.Nat.{ℕ, _+_, _-_, _*_, _≤_, _<_}
+use Prim.Native.Nat.{ℕ, _-_, _≤_}
 use native.Mathlib.Omega.{arith}
 use lib.ListN.{length, getD, length-set}
 use Rattle.table.proofs.Zeroed.{Filled, filled-next, filled-all}
-use Rattle.memo.specs.Recalling.{setsIn}
 use mathlib.Core.Logic.{⊎-elim}
 use lib.Seq.{getD-set-other}
 use Rattle.table.proofs.Laws.{lt-or-le}

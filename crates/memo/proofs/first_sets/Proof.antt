@@ -1,8 +1,6 @@
 -- `first_sets` divides by four, and 33 is more than four. Assumes nothing.
-use mathlib.Core.Path.{_≡_, refl}
-use Prim.Native.Nat.{ℕ, _+_, _-_, _*_, _≤_, _<_}
+use Prim.Native.Nat.{_-_, _≤_}
 use native.Mathlib.Omega.{arith}
-use borrow.Author.Needs.{needs}
 use Rattle.memo.proofs.first_sets.Statement.{statement}
 use Rattle.memo.proofs.first_sets.Tie as tie
 

@@ -1,6 +1,5 @@
 -- `in_order` meets its contract. Assumes nothing.
 use Rattle.memo.specs.Recalling.{as-given, turned}
-use borrow.Author.Needs.{needs}
 use Rattle.memo.proofs.in_order.Statement.{statement}
 use Rattle.memo.proofs.in_order.Tie as tie
 

@@ -1,5 +1,4 @@
 -- `remember` notes the answer in sets that are ready. Assumes nothing.
-use mathlib.Core.Path.{_≡_}
 use native.Mathlib.Omega.{arith}
 use Rattle.memo.proofs.Recalled.{put-noted}
 use borrow.Author.Needs.{needs}

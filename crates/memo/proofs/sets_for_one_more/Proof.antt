@@ -1,5 +1,5 @@
 -- `sets_for_one_more` writes the head, and moves entries at most. Assumes nothing.
-use mathlib.Core.Path.{refl, _∙_}
+use mathlib.Core.Path.{_∙_}
 use native.Mathlib.Omega.{arith}
 use Rattle.memo.proofs.Recalled.{kept-same, headed-readied, framed-readied}
 use lib.ListN.{length-set}

@@ -1,6 +1,5 @@
 -- `admission::memo_allowed` meets its contract. Assumes nothing.
 use native.Mathlib.Omega.{arith}
-use borrow.Author.Needs.{needs}
 use Rattle.table.specs.Deciding.{holds, fails}
 use Rattle.kernel.proofs.admission.memo_allowed.Statement.{statement}
 use Rattle.kernel.proofs.admission.memo_allowed.Tie as tie

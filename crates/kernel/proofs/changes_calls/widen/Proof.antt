@@ -1,5 +1,4 @@
 -- `changes_calls::widen` has the one outcome that its contract allows. Assumes nothing.
-use mathlib.Core.Path.{_∙_}
 use native.Mathlib.Omega.{arith}
 use Rattle.ranges.proofs.Ends.{held-keyed}
 use Rattle.kernel.proofs.ByIds.{ids-lent, cleared-lent, cleared, ids-refused, ids-answered, same-widen}

@@ -1,5 +1,5 @@
 -- `joins_calls::or` has the one outcome that its contract allows. Assumes nothing.
-use mathlib.Core.Path.{refl, _∙_}
+use mathlib.Core.Path.{refl}
 use Rattle.walks.proofs.Finished.{ready-zeroed}
 use Rattle.kernel.proofs.Deciding.{asks-none}
 use Rattle.kernel.proofs.ByIds.{ids-lent, cleared-lent, cleared, ids-refused, ids-answered}
