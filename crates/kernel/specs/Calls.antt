@@ -49,14 +49,14 @@ pub record Row : Type 1 where
   pub asks : Table → (m : Reading → Bool) → Type 0
 
 -- A condition is given no id and is lent no memo.
-abbrev condition : Type 0 → Type 0 → (Table → Table × ℕ) → (Table → (Reading → Bool) → Type 0) → Row
+abbrev condition : (keys kind : Type 0) (make : Table → Table × ℕ) (asks : Table → (Reading → Bool) → Type 0) → Row
 condition keys kind make asks = record { lent = λ st index memo. Allowed st index; keys = keys; known = λ u. Unit {0}; kind = kind; make = make; asks = asks }
 
 -- An operation on ids is lent a memo.
 abbrev pub Lending : Store → List ℕ → List ℕ → Type 0
 Lending st index memo = Allowed st index × MemoLengths (length memo) (room (st .nodes))
 
-abbrev operation : Type 0 → (ℕ → Type 0) → Type 0 → (Table → Table × ℕ) → (Table → (Reading → Bool) → Type 0) → Row
+abbrev operation : (keys : Type 0) (known : ℕ → Type 0) (kind : Type 0) (make : Table → Table × ℕ) (asks : Table → (Reading → Bool) → Type 0) → Row
 operation keys known kind make asks = record { lent = Lending; keys = keys; known = known; kind = kind; make = make; asks = asks }
 
 -- The numbers of two bounds are keys; two ids are known.

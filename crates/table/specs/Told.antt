@@ -68,11 +68,15 @@ readingOf places bools ok = record { place = λ v. cutAt places v; holds = λ v.
 --   answer  the answer where this many nodes are used.
 module _ (lent : Type 0) (known : ℕ → Type 0) (right : Type 0) (answer : ℕ → right → Bool) (st : Store) (index : List ℕ) where
   pub data Replies : ℕ → Bool → Type 0 where
+    -- "a room or length isn't allowed"
     reply-1 : (lent → ⊥) → Replies wrongRoom false
+    -- "the table isn't sound"
     reply-2 : lent → Unsound st index → Replies notSound false
+    -- "an id is no terminal and names no used node"
     reply-3 : lent → (u : ℕ) → SoundLent st index u → (known u → ⊥) → Replies unknownId false
-    -- "a place lies outside .."
+    -- "a reading lies beyond the end places"
     reply-5 : lent → (u : ℕ) → SoundLent st index u → known u → (right → ⊥) → Replies beyondPlaces false
+    -- "done"
     reply-0 : lent → (u : ℕ) → SoundLent st index u → known u → (ok : right) → Replies done (answer u ok)
 
 -- Reading an id is lent a table and 32 places.
