@@ -10,7 +10,8 @@ use Rattle.algebra.specs.Conditions.{upTo, between, from-range, comparis
 use Rattle.algebra.specs.Conjunction.{walk, walkBack, walkIn, opening, conj-node, conj-step, conj, or}
 use Rattle.algebra.specs.Disjointness.{every, disjoint-step, disjoint}
 use Rattle.algebra.specs.Changing.{isBefore, change-step, change, restrict, cutAbove, narrow, widen}
-use Rattle.algebra.specs.Cases.{Hold, HoldEach, starred, orders}
+use Rattle.algebra.specs.Cases.{Hold, starred}
+use Rattle.algebra.specs.Orders.{HoldEach, orders}
 
 pub starred-cases-hold : Hold [] starred
 unfolding at value map edgesOf below beside above overlay join merge find intern firstSign settle upTo between from-range comparison from-bool walk walkBack walkIn opening conj-node conj-step conj or every disjoint-step disjoint starred

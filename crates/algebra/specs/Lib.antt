@@ -8,3 +8,4 @@ pub mod Changing
 pub mod Answering
 pub mod Narrowing
 pub mod Cases
+pub mod Orders

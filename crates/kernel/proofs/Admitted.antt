@@ -14,14 +14,15 @@ use Rattle.ranges.specs.declared.bounds.Comparison.{Comparison}
 use Rattle.diagram.specs.Table.{Table}
 use Rattle.algebra.specs.Conditions.{from-range, comparison, from-bool}
 use Rattle.table.specs.Deciding.{Decides}
-use Rattle.table.specs.Told.{done, Allowed, Checks, checked-1, checked-2, checked-0}
+use Rattle.table.specs.Told.{done, Allowed, Checks, checked-1, checked-2, checked-0, refused-last}
 use Rattle.table.proofs.Laws.{decided-true, decided-false}
+use Rattle.table.proofs.Hearing.{check-refuses}
 use Rattle.making.specs.declared.nodes.Used.{Used}
 use Rattle.making.specs.declared.nodes.Made.{Made}
 use Rattle.making.specs.Outcome.{Lent, Creates, tableOf}
-use Rattle.kernel.specs.Makes.{wrongVariable, noRoom, Makes, made-4}
+use Rattle.kernel.specs.Makes.{wrongVariable, noRoom, Makes, made-no}
 use Rattle.kernel.specs.Admitting.{Admits, not-lent, not-kind, admitted}
-use Rattle.kernel.proofs.Handing.{check-refuses, outcome-told}
+use Rattle.kernel.proofs.Handing.{outcome-told}
 use Rattle.table.specs.Layout.{Store}
 
 module _ {st : Store} {index : List ℕ} where
@@ -47,8 +48,8 @@ module _ (kind : Type 0) (want : Table → Table × ℕ) (st : Store) (index : L
   -- rows 1, 2 and 4
   pub condition-refused : {b : Bool} {k n id : ℕ} {h : Used} → Decides kind b → Admits st index b k h → (k ≡ done → ⊥) → (n ≡ k) × (id ≡ FALSE)
       → Makes (Allowed st index) (λ u. Unit {0}) kind want st index [] n id st index []
-  condition-refused d (not-lent b h c f) x q = rw (q .0, q .1) (check-refuses _ _ kind want st index [] (λ a. a) (λ a. a) c f)
-  condition-refused d (not-kind h l) x q = rw (q .0, q .1) (made-4 (l .allowed) (h .nodes) (l .sound) tt (decided-false d refl))
+  condition-refused d (not-lent b h c f) x q = rw (q .0, q .1) (made-no (check-refuses (λ a. a) (λ a. a) c f))
+  condition-refused d (not-kind h l) x q = rw (q .0, q .1) (made-no (refused-last (l .allowed) (h .nodes) (l .sound) tt (decided-false d refl)))
   condition-refused d (admitted h l) x q = absurd (x refl)
 
   -- rows 6 and 0, from what was made

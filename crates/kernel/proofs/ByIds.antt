@@ -12,17 +12,18 @@ use Rattle.diagram.specs.Table.{Table}
 use Rattle.algebra.specs.Changing.{restrict, narrow, widen}
 use Rattle.table.specs.Layout.{room, MemoLengths, Store}
 use Rattle.table.specs.Deciding.{Decides}
-use Rattle.table.specs.Told.{done}
+use Rattle.table.specs.Told.{done, refused-1, refused-3, refused-last}
 use Rattle.table.proofs.Laws.{decided-true, decided-false}
+use Rattle.table.proofs.Hearing.{check-refuses}
 use Rattle.making.specs.declared.nodes.Used.{Used}
 use Rattle.making.specs.declared.nodes.Made.{Made}
 use Rattle.making.specs.Outcome.{Lent, tableOf}
 use Rattle.memo.specs.Recalling.{Cleared}
 use Rattle.walks.specs.Walking.{Worked}
 use Rattle.kernel.specs.Calls.{Lending, BothKnown}
-use Rattle.kernel.specs.Makes.{wrongVariable, noRoom, Makes, made-1, made-3, made-4}
+use Rattle.kernel.specs.Makes.{wrongVariable, noRoom, Makes, made-no}
 use Rattle.kernel.specs.Admitting.{Admits, not-lent, admitted, AdmitsIds, ids-not-long, ids-not-lent, ids-not-known, ids-not-kind, ids-admitted}
-use Rattle.kernel.proofs.Handing.{check-refuses, outcome-told}
+use Rattle.kernel.proofs.Handing.{outcome-told}
 
 module _ {st : Store} {index : List ℕ} {n x y : ℕ} {kind : Bool} (long : MemoLengths n (room (st .nodes))) where
   -- the table is refused
@@ -61,10 +62,10 @@ module _ (known : ℕ → Type 0) (kind : Type 0) (want : Table → Table × ℕ
     (to : (u : ℕ) → BothKnown x y u → known u) (back : (u : ℕ) → known u → BothKnown x y u) where
   -- rows 1 to 4
   pub ids-refused : {b : Bool} {k n id : ℕ} {h : Used} → Decides kind b → AdmitsIds st index (length memo) x y b k h → (k ≡ done → ⊥) → (n ≡ k) × (id ≡ FALSE) → Makes (Lending st index memo) known kind want st index memo n id st index memo
-  ids-refused d (ids-not-long b h f) g q = rw (q .0, q .1) (made-1 (λ l. f (l .1)))
-  ids-refused d (ids-not-lent b h e c f) g q = rw (q .0, q .1) (check-refuses _ known kind want st index memo (λ a. (a, e)) (λ l. l .0) c f)
-  ids-refused d (ids-not-known b h e l f) g q = rw (q .0, q .1) (made-3 (l .allowed, e) (h .nodes) (l .sound) (λ a. f (back (h .nodes) a)))
-  ids-refused d (ids-not-kind h e l a) g q = rw (q .0, q .1) (made-4 (l .allowed, e) (h .nodes) (l .sound) (to (h .nodes) a) (decided-false d refl))
+  ids-refused d (ids-not-long b h f) g q = rw (q .0, q .1) (made-no (refused-1 (λ l. f (l .1))))
+  ids-refused d (ids-not-lent b h e c f) g q = rw (q .0, q .1) (made-no (check-refuses (λ a. (a, e)) (λ l. l .0) c f))
+  ids-refused d (ids-not-known b h e l f) g q = rw (q .0, q .1) (made-no (refused-3 (l .allowed, e) (h .nodes) (l .sound) (λ a. f (back (h .nodes) a))))
+  ids-refused d (ids-not-kind h e l a) g q = rw (q .0, q .1) (made-no (refused-last (l .allowed, e) (h .nodes) (l .sound) (to (h .nodes) a) (decided-false d refl)))
   ids-refused d (ids-admitted h e l a) g q = absurd (g refl)
 
   -- rows 6 and 0, from what the operation leaves: its memo was cleared before it, and is cleared after it

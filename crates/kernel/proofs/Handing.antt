@@ -10,12 +10,12 @@ use Rattle.diagram.specs.Room.{Fits}
 use Rattle.table.specs.Layout.{room, Store}
 use Rattle.table.specs.Lent.{SoundLent}
 use Rattle.table.specs.Held.{held}
-use Rattle.table.specs.Told.{done, Allowed, Checks, checked-1, checked-2, checked-0}
+use Rattle.table.specs.Told.{done, Allowed}
 use Rattle.making.specs.declared.nodes.Used.{Used}
 use Rattle.making.specs.declared.nodes.Made.{Made}
 use Rattle.making.specs.Outcome.{Lent, Outcome, Creates, tableOf}
 use Rattle.making.proofs.Taken.{cuts-as-long, index-as-long}
-use Rattle.kernel.specs.Makes.{noRoom, Leaves, Makes, made-1, made-2, made-6, made-0}
+use Rattle.kernel.specs.Makes.{noRoom, Leaves, Makes, made-6, made-0}
 
 -- what a call leaves, from a table that is sound again in the same room
 pub leaves-it : {t : Table} (st : Store) (index : List ℕ) (st′ : Store) (index′ : List ℕ) (u : ℕ) → Allowed st index → Allowed st′ index′
@@ -24,13 +24,6 @@ pub leaves-it : {t : Table} (st : Store) (index : List ℕ) (st′ : Store) (ind
 leaves-it st index st′ index′ u a b l w s e = record { long = l; wide = w; deep = cuts-as-long a b w; indexed = index-as-long a b l; used = u; sound = s; holds = e }
 
 module _ (lent : Type 0) (known : ℕ → Type 0) (kind : Type 0) (want : Table → Table × ℕ) (st : Store) (index memo : List ℕ) where
-  -- rows 1 and 2, from the check of the table; the other lengths that a call is lent are right
-  pub check-refuses : {k u e : ℕ} → (Allowed st index → lent) → (lent → Allowed st index) → Checks st index k u e → (k ≡ done → ⊥)
-      → Makes lent known kind want st index memo k FALSE st index memo
-  check-refuses to from (checked-1 f) n = made-1 (λ l. f (from l))
-  check-refuses to from (checked-2 a f) n = made-2 (to a) f
-  check-refuses to from (checked-0 a u s) n = absurd (n refl)
-
   module _ {u : ℕ} (l : lent) (s : SoundLent st index u) (a : known u) (v : kind) where
     -- row 6, from words that are as they were
     pub no-room-it : {st′ : Store} {index′ memo′ : List ℕ} → (Fits (room (st .nodes)) (length (st .children)) ((want (held st u)) .0) → ⊥)

@@ -10,9 +10,9 @@ use Rattle.table.specs.Layout.{room, Store}
 use Rattle.table.specs.Lent.{SoundLent}
 use Rattle.table.specs.Held.{held}
 use Rattle.table.proofs.Once.{sound-once}
-use Rattle.table.proofs.Hearing.{replies-once}
+use Rattle.table.proofs.Hearing.{not-refused, refuses-once, replies-once}
 use Rattle.table.proofs.Promises.{fits-its-room, same-table-same-words}
-use Rattle.kernel.specs.Makes.{Leaves, Makes, made-1, made-2, made-3, made-4, made-6, made-0, Disjoints}
+use Rattle.kernel.specs.Makes.{Leaves, Makes, made-no, made-6, made-0, Disjoints}
 
 -- what a call leaves in its room fits it
 pub leaves-fits : {t : Table} {st : Store} {index : List ℕ} {st′ : Store} {index′ : List ℕ}
@@ -42,40 +42,13 @@ module _ (lent : Type 0) (known : ℕ → Type 0) (kind : Type 0) (want : Table 
 
   pub makes-once : {k k′ id id′ : ℕ} {st′ st″ : Store} {index′ index″ m m′ : List ℕ} → Out k id st′ index′ m → Out k′ id′ st″ index″ m′
       → (k ≡ k′) × (id ≡ id′) × (st′ ≡ st″) × (index′ ≡ index″) × (m ≡ m′)
-  makes-once (made-1 f) (made-1 f′) = (refl, refl, refl, refl, refl)
-  makes-once (made-1 f) (made-2 l′ f′) = absurd (f l′)
-  makes-once (made-1 f) (made-3 l′ u′ s′ f′) = absurd (f l′)
-  makes-once (made-1 f) (made-4 l′ u′ s′ k′ f′) = absurd (f l′)
-  makes-once (made-1 f) (made-6 l′ u′ s′ k′ v′ f′) = absurd (f l′)
-  makes-once (made-1 f) (made-0 l′ u′ s′ k′ v′ _ _ h′) = absurd (f l′)
-  makes-once (made-2 l f) (made-1 f′) = absurd (f′ l)
-  makes-once (made-2 l f) (made-2 l′ f′) = (refl, refl, refl, refl, refl)
-  makes-once (made-2 l f) (made-3 l′ u′ s′ f′) = absurd (f u′ s′)
-  makes-once (made-2 l f) (made-4 l′ u′ s′ k′ f′) = absurd (f u′ s′)
-  makes-once (made-2 l f) (made-6 l′ u′ s′ k′ v′ f′) = absurd (f u′ s′)
-  makes-once (made-2 l f) (made-0 l′ u′ s′ k′ v′ _ _ h′) = absurd (f u′ s′)
-  makes-once (made-3 l u s f) (made-1 f′) = absurd (f′ l)
-  makes-once (made-3 l u s f) (made-2 l′ f′) = absurd (f′ u s)
-  makes-once (made-3 l u s f) (made-3 l′ u′ s′ f′) = (refl, refl, refl, refl, refl)
-  makes-once (made-3 l u s f) (made-4 l′ u′ s′ k′ f′) = absurd (f (subst known (one s′ s) k′))
-  makes-once (made-3 l u s f) (made-6 l′ u′ s′ k′ v′ f′) = absurd (f (subst known (one s′ s) k′))
-  makes-once (made-3 l u s f) (made-0 l′ u′ s′ k′ v′ _ _ h′) = absurd (f (subst known (one s′ s) k′))
-  makes-once (made-4 l u s k f) (made-1 f′) = absurd (f′ l)
-  makes-once (made-4 l u s k f) (made-2 l′ f′) = absurd (f′ u s)
-  makes-once (made-4 l u s k f) (made-3 l′ u′ s′ f′) = absurd (f′ (subst known (one s s′) k))
-  makes-once (made-4 l u s k f) (made-4 l′ u′ s′ k′ f′) = (refl, refl, refl, refl, refl)
-  makes-once (made-4 l u s k f) (made-6 l′ u′ s′ k′ v′ f′) = absurd (f v′)
-  makes-once (made-4 l u s k f) (made-0 l′ u′ s′ k′ v′ _ _ h′) = absurd (f v′)
-  makes-once (made-6 l u s k v f) (made-1 f′) = absurd (f′ l)
-  makes-once (made-6 l u s k v f) (made-2 l′ f′) = absurd (f′ u s)
-  makes-once (made-6 l u s k v f) (made-3 l′ u′ s′ f′) = absurd (f′ (subst known (one s s′) k))
-  makes-once (made-6 l u s k v f) (made-4 l′ u′ s′ k′ f′) = absurd (f′ v)
+  makes-once (made-no f) (made-no g) = (refuses-once f g, refl, refl, refl, refl)
+  makes-once (made-no f) (made-6 l u s k v g) = absurd (not-refused l s k v f)
+  makes-once (made-no f) (made-0 l u s k v _ _ h) = absurd (not-refused l s k v f)
+  makes-once (made-6 l u s k v f) (made-no g) = absurd (not-refused l s k v g)
   makes-once (made-6 l u s k v f) (made-6 l′ u′ s′ k′ v′ f′) = (refl, refl, refl, refl, refl)
   makes-once (made-6 l u s k v f) (made-0 l′ u′ s′ k′ v′ _ _ h′) = absurd (f (subst Room (one s′ s) (leaves-fits h′)))
-  makes-once (made-0 l u s k v _ _ h) (made-1 f′) = absurd (f′ l)
-  makes-once (made-0 l u s k v _ _ h) (made-2 l′ f′) = absurd (f′ u s)
-  makes-once (made-0 l u s k v _ _ h) (made-3 l′ u′ s′ f′) = absurd (f′ (subst known (one s s′) k))
-  makes-once (made-0 l u s k v _ _ h) (made-4 l′ u′ s′ k′ f′) = absurd (f′ v)
+  makes-once (made-0 l u s k v _ _ h) (made-no g) = absurd (not-refused l s k v g)
   makes-once (made-0 l u s k v _ _ h) (made-6 l′ u′ s′ k′ v′ f′) = absurd (f′ (subst Room (one s s′) (leaves-fits h)))
   makes-once (made-0 l u s k v _ _ h) (made-0 l′ u′ s′ k′ v′ _ _ h′) = let w = same-done (one s s′) h h′ in (refl, ap (λ (m : ℕ). (wanted m) .1) (one s s′), w .0, w .1, refl)
 

@@ -3,7 +3,7 @@
 use mathlib.Core.Path.{_≡_, refl, sym, subst}
 use mathlib.Core.Bool.{Bool, true, false, _&&_}
 use mathlib.Core.List.{List}
-use mathlib.Core.Logic.{_↔_, _⊎_, inl, inr}
+use mathlib.Core.Logic.{_↔_, inl, inr}
 use Prim.Native.Nat.{ℕ, _≤_}
 use native.Mathlib.Omega.{arith}
 use lib.ListN.{length, replicate}
@@ -20,11 +20,12 @@ use Rattle.algebra.proofs.Promises.{disjoint-exactly, fits-exactly}
 use Rattle.table.specs.Layout.{room, Store}
 use Rattle.table.specs.Lent.{SoundLent}
 use Rattle.table.specs.Held.{held}
-use Rattle.table.specs.Told.{done, Checks, reply-1, reply-2, reply-3, reply-5, reply-0}
+use Rattle.table.specs.Told.{done, Checks, Refuses, refused-1, refused-2, refused-3, refused-last, reply-no, reply-0}
 use Rattle.table.proofs.Once.{sound-once}
+use Rattle.table.proofs.Hearing.{not-refused, refused-not-done}
 use Rattle.table.proofs.Promises.{holds-a-sound-table, counts-what-is-held}
 use Rattle.kernel.specs.Calls.{Call, row}
-use Rattle.kernel.specs.Makes.{Leaves, Makes, made-1, made-2, made-3, made-4, made-6, made-0, Comes, Disjoints}
+use Rattle.kernel.specs.Makes.{wrongVariable, Leaves, Makes, made-no, made-6, made-0, Comes, Disjoints}
 use Rattle.kernel.specs.Meaning.{Answered, LentAnswer, DoneOrNoRoom}
 use Rattle.kernel.proofs.Admitted.{check-lends}
 use Rattle.kernel.proofs.Asked.{makes-what-is-asked, something-is-asked, one-thing-is-asked}
@@ -88,10 +89,7 @@ module _ (q : Call) (st : Store) (index memo : List ℕ) {k id : ℕ} {st′ : S
   call-answered e = go (o .1) e
     where
       go : {n to : ℕ} {st″ : Store} {index″ memo″ : List ℕ} → Out n to st″ index″ memo″ → n ≡ done → Answered q st index to st″ index″
-      go (made-1 f) e = absurd (omega arith)
-      go (made-2 l f) e = absurd (omega arith)
-      go (made-3 l u s f) e = absurd (omega arith)
-      go (made-4 l u s a f) e = absurd (omega arith)
+      go (made-no f) e = absurd (refused-not-done (λ i. omega arith) f e)
       go (made-6 l u s a h f) e = absurd (omega arith)
       go (made-0 l u s a h st″ index″ w) e =
           let x = made-so s a h in
@@ -121,10 +119,7 @@ module _ (q : Call) (st : Store) (index memo : List ℕ) {k id : ℕ} {st′ : S
   refused-changes-nothing e = go (o .1) e
     where
       go : {n to : ℕ} {st″ : Store} {index″ memo″ : List ℕ} → Out n to st″ index″ memo″ → (n ≡ done → ⊥) → (to ≡ FALSE) × (st″ ≡ st) × (index″ ≡ index)
-      go (made-1 f) e = (refl, refl, refl)
-      go (made-2 l f) e = (refl, refl, refl)
-      go (made-3 l u s f) e = (refl, refl, refl)
-      go (made-4 l u s a f) e = (refl, refl, refl)
+      go (made-no f) e = (refl, refl, refl)
       go (made-6 l u s a v f) e = (refl, refl, refl)
       go (made-0 l u s a v _ _ h) e = absurd (e refl)
 
@@ -147,59 +142,49 @@ module _ (q : Call) (st : Store) (index memo : List ℕ) {k id : ℕ} {st′ : S
             (w .used, w .sound, λ b kb. (omega (arith, continues-length c, counted s, counted (w .sound)), λ ρ. old-ids-say-the-same (held st u) (held st″ (w .used)) c ρ b (into-held s b kb)))
 
         go : {n to : ℕ} {st″ : Store} {index″ memo″ : List ℕ} → Out n to st″ index″ memo″ → Kept st″ index″
-        go (made-1 f) = as-it-was
-        go (made-2 l f) = as-it-was
-        go (made-3 l v t f) = as-it-was
-        go (made-4 l v t a f) = as-it-was
+        go (made-no f) = as-it-was
         go (made-6 l v t a h f) = as-it-was
         go (made-0 l v t a h st″ index″ w) =
             let e = sound-once st index v u t s in
             longer (subst (λ (n : ℕ). Leaves (((row q) .make (held st n)) .0) st index st″ index″) e w) (subst ((row q) .known) e a) h
 
     module _ (l : (row q) .lent st index memo) (a : (row q) .known u) (h : (row q) .kind) where
-      -- where the checks 1 to 4 pass, the number is 0 if what the operation makes fits, with the words that are left, and 6 if it does not
       abbrev makes : Table
       makes = ((row q) .make (held st u)) .0
 
-      done-or-full : ((k ≡ done) × Leaves makes st index st′ index′) ⊎ ((k ≡ 6) × (Fits (room (st .nodes)) (length (st .children)) makes → ⊥))
-      done-or-full = go (o .1)
+      abbrev Roomy : Type 0
+      Roomy = Fits (room (st .nodes)) (length (st .children)) makes
+
+      -- Where the checks 1 to 4 pass, the number is 0 beside words that hold what the operation makes, or 6 where it does not fit. So it tells
+      -- whether there is room in any sense that the first shows and the second denies.
+      done-or-full : {P : Type 0} → (Leaves makes st index st′ index′ → P) → (P → Roomy) → DoneOrNoRoom P k
+      done-or-full {P} to back = go (o .1) to
         where
-          go : {n to : ℕ} {st″ : Store} {index″ memo″ : List ℕ} → Out n to st″ index″ memo″ → ((n ≡ done) × Leaves makes st index st″ index″) ⊎ ((n ≡ 6) × (Fits (room (st .nodes)) (length (st .children)) makes → ⊥))
-          go (made-1 f) = absurd (f l)
-          go (made-2 l′ f) = absurd (f u s)
-          go (made-3 l′ v t f) = absurd (f (subst ((row q) .known) (sound-once st index u v s t) a))
-          go (made-4 l′ v t a′ f) = absurd (f h)
-          go (made-6 l′ v t a′ h′ f) = inr (refl, subst (λ (n : ℕ). Fits (room (st .nodes)) (length (st .children)) (((row q) .make (held st n)) .0) → ⊥) (sound-once st index v u t s) f)
-          go (made-0 l′ v t a′ h′ st″ index″ w) = inl (refl, subst (λ (n : ℕ). Leaves (((row q) .make (held st n)) .0) st index st″ index″) (sound-once st index v u t s) w)
+          go : {n to : ℕ} {st″ : Store} {index″ memo″ : List ℕ} → Out n to st″ index″ memo″ → (Leaves makes st index st″ index″ → P) → DoneOrNoRoom P n
+          go (made-no f) shown = absurd (not-refused l s a h f)
+          go (made-6 l′ v t a′ h′ f) shown = inr (refl, λ p. subst (λ (n : ℕ). Fits (room (st .nodes)) (length (st .children)) (((row q) .make (held st n)) .0) → ⊥) (sound-once st index v u t s) f (back p))
+          go (made-0 l′ v t a′ h′ st″ index″ w) shown = inl (refl, shown (subst (λ (n : ℕ). Leaves (((row q) .make (held st n)) .0) st index st″ index″) (sound-once st index v u t s) w))
 
       module _ (m : Reading → Bool) (asked : (row q) .asks (held st u) m) where
-        exactly : Answerable (room (st .nodes)) (length (st .children)) (held st u) m ↔ Fits (room (st .nodes)) (length (st .children)) makes
-        exactly = fits-exactly _ _ _ (made-here s a h m asked) (room (st .nodes)) (length (st .children))
+        made : Answers (held st u) m ((row q) .make (held st u))
+        made = made-here s a h m asked
+
+        exactly : Answerable (room (st .nodes)) (length (st .children)) (held st u) m ↔ Roomy
+        exactly = fits-exactly _ _ _ made (room (st .nodes)) (length (st .children))
 
         -- Demand 2, "no room" both ways: the number is 0 if some sound table that continues this one within its room holds the answer, and 6 if
         -- none does;
         pub done-or-no-room : DoneOrNoRoom (Answerable (room (st .nodes)) (length (st .children)) (held st u) m) k
-        done-or-no-room = go done-or-full
-          where
-            go : ((k ≡ done) × Leaves makes st index st′ index′) ⊎ ((k ≡ 6) × (Fits (room (st .nodes)) (length (st .children)) makes → ⊥)) → DoneOrNoRoom (Answerable (room (st .nodes)) (length (st .children)) (held st u) m) k
-            go (inl (e, w)) = inl (e, exactly .1 (leaves-fits w))
-            go (inr (e, f)) = inr (e, λ x. f (exactly .0 x))
+        done-or-no-room = done-or-full (λ w. exactly .1 (leaves-fits w)) (λ x. exactly .0 x)
 
         -- and the same of lent words.
         pub done-or-no-lent-room : DoneOrNoRoom (LentAnswer m st index u) k
-        done-or-no-lent-room = go done-or-full
-          where
-            go : ((k ≡ done) × Leaves makes st index st′ index′) ⊎ ((k ≡ 6) × (Fits (room (st .nodes)) (length (st .children)) makes → ⊥)) → DoneOrNoRoom (LentAnswer m st index u) k
-            go (inl (e, w)) = inl (e, left-answer (made-here s a h m asked) w)
-            go (inr (e, f)) = inr (e, λ x. f (exactly .0 (answerable x)))
+        done-or-no-lent-room = done-or-full (λ w. left-answer made w) (λ x. exactly .0 (answerable x))
 
 -- Step 6: disjointness beside 0 is yes exactly when no reading makes both true.
 pub disjoint-told : (st : Store) (index : List ℕ) (x y : ℕ) {k : ℕ} {b : Bool} → Disjoints st index x y k b → k ≡ done
     → (u : ℕ) × SoundLent st index u × ((b ≡ true) ↔ ((ρ : Reading) → (says (held st u) ρ x && says (held st u) ρ y) ≡ false))
-disjoint-told st index x y (reply-1 f) e = absurd (omega arith)
-disjoint-told st index x y (reply-2 l f) e = absurd (omega arith)
-disjoint-told st index x y (reply-3 l u s f) e = absurd (omega arith)
-disjoint-told st index x y (reply-5 l u s a f) e = absurd (omega arith)
+disjoint-told st index x y (reply-no f) e = absurd (refused-not-done (λ i. omega arith) f e)
 disjoint-told st index x y (reply-0 l u s a ok) e =
     (u, s, disjoint-exactly (held st u) (holds-a-sound-table st index u s) x y (into-held s x (a .0)) (into-held s y (a .1)))
 
@@ -208,10 +193,13 @@ disjoint-told st index x y (reply-0 l u s a ok) e =
 module _ {lent lent″ : Type 0} (to : lent → lent″) (back : lent″ → lent) (known : ℕ → Type 0) (kind : Type 0) (want : Table → Table × ℕ) (st : Store) (index memo memo″ : List ℕ) where
   with-memo : {k id : ℕ} {st′ : Store} {index′ memo′ : List ℕ} → Makes lent known kind want st index memo k id st′ index′ memo′
       → (z″ : List ℕ) × Makes lent″ known kind want st index memo″ k id st′ index′ z″
-  with-memo (made-1 f) = (memo″, made-1 (λ l. f (back l)))
-  with-memo (made-2 l f) = (memo″, made-2 (to l) f)
-  with-memo (made-3 l u s f) = (memo″, made-3 (to l) u s f)
-  with-memo (made-4 l u s a f) = (memo″, made-4 (to l) u s a f)
+  with-memo (made-no f) = (memo″, made-no (still f))
+    where
+      still : {k : ℕ} → Refuses lent known wrongVariable kind st index k → Refuses lent″ known wrongVariable kind st index k
+      still (refused-1 f) = refused-1 (λ l. f (back l))
+      still (refused-2 l f) = refused-2 (to l) f
+      still (refused-3 l u s f) = refused-3 (to l) u s f
+      still (refused-last l u s a f) = refused-last (to l) u s a f
   with-memo (made-6 l u s a v f) = (replicate (length memo″) 0, made-6 (to l) u s a v f)
   with-memo (made-0 l u s a v st′ index′ h) = (replicate (length memo″) 0, made-0 (to l) u s a v st′ index′ h)
 

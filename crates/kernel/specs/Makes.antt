@@ -12,7 +12,7 @@ use Rattle.algebra.specs.Disjointness.{is-disjoint}
 use Rattle.table.specs.Layout.{room, Store}
 use Rattle.table.specs.Lent.{SoundLent}
 use Rattle.table.specs.Held.{held}
-use Rattle.table.specs.Told.{done, wrongRoom, notSound, unknownId, Allowed, Unsound, Replies}
+use Rattle.table.specs.Told.{done, Allowed, Refuses, Replies}
 use Rattle.kernel.specs.Calls.{Call, row, BothKnown}
 
 -- The numbers of the table in document 01 that only these calls give.
@@ -40,14 +40,8 @@ pub record Leaves (t : Table) (st : Store) (index : List ℕ) (st′ : Store) (i
 -- and the words before it.
 module _ (lent : Type 0) (known : ℕ → Type 0) (kind : Type 0) (want : Table → Table × ℕ) (st : Store) (index memo : List ℕ) where
   pub data Makes : ℕ → ℕ → Store → List ℕ → List ℕ → Type 0 where
-    -- "a room or length isn't allowed": "id 1, everything as found"
-    made-1 : (lent → ⊥) → Makes wrongRoom FALSE st index memo
-    -- "the table isn't sound"
-    made-2 : lent → Unsound st index → Makes notSound FALSE st index memo
-    -- "an id is no terminal and names no used node"
-    made-3 : lent → (u : ℕ) → SoundLent st index u → (known u → ⊥) → Makes unknownId FALSE st index memo
-    -- "a variable is 64 or more, or of the wrong kind where a kind is asked"
-    made-4 : lent → (u : ℕ) → SoundLent st index u → known u → (kind → ⊥) → Makes wrongVariable FALSE st index memo
+    -- rows 1 to 4, the last check being "a variable is 64 or more, or of the wrong kind where a kind is asked": "id 1, everything as found"
+    made-no : {k : ℕ} → Refuses lent known wrongVariable kind st index k → Makes k FALSE st index memo
     -- what the operation makes does not fit the room: "id 1, table as found, memo all zero"
     made-6 : lent → (u : ℕ) → SoundLent st index u → known u → kind
         → (Fits (room (st .nodes)) (length (st .children)) ((want (held st u)) .0) → ⊥)
@@ -62,6 +56,7 @@ abbrev pub Comes : Call → Store → List ℕ → List ℕ → ℕ → ℕ → 
 Comes q st index memo number id st′ index′ memo′ =
     (row q) .keys × Makes ((row q) .lent st index memo) ((row q) .known) ((row q) .kind) ((row q) .make) st index memo number id st′ index′ memo′
 
--- "Disjointness and reading borrow no memo and change nothing."
+-- "Disjointness and reading borrow no memo and change nothing." Disjointness is given ids
+-- alone: its last check asks nothing, and never fails.
 abbrev pub Disjoints : Store → List ℕ → ℕ → ℕ → ℕ → Bool → Type 0
 Disjoints st index x y = Replies (Allowed st index) (BothKnown x y) (Unit {0}) (λ u ok. is-disjoint (held st u) x y) st index

@@ -15,7 +15,7 @@ use Rattle.diagram.specs.Reading.{positions}
 use Rattle.table.specs.Layout.{cutAt, start, cutPosition, Store, store}
 use Rattle.table.specs.Lent.{SoundLent}
 use Rattle.table.specs.Held.{held}
-use Rattle.table.specs.Told.{Allowed, Checks, checked-1, checked-2, checked-0, Freshens, freshened-1, freshened-0, Places, bit, readingOf, Replies, reply-1, reply-2, reply-3, reply-5, reply-0, Hears}
+use Rattle.table.specs.Told.{Allowed, Checks, checked-1, checked-2, checked-0, Freshens, freshened-1, freshened-0, Places, bit, readingOf, Refuses, refused-1, refused-2, refused-3, refused-last, Replies, reply-no, reply-0, Hears}
 use Rattle.table.specs.Checking.{spots, Judges, sound, unsound}
 use Rattle.table.proofs.CutPositions.{cut-position-place}
 use Rattle.table.proofs.Once.{sound-once}
@@ -42,6 +42,51 @@ known-when-true u id e t = leb-true (ref id) u (sym e ∙ t)
 pub unknown-when-false : (u id : ℕ) {b : Bool} → b ≡ leb (ref id) u → b ≡ false → KnownTo u id → ⊥
 unknown-when-false u id e f k = omega (arith, leb-false (ref id) u (sym e ∙ f))
 
+-- what holds of one number of used nodes holds of the other
+as-used : {st : Store} {index : List ℕ} {u u′ : ℕ} (P : ℕ → Type 0) → SoundLent st index u → SoundLent st index u′ → P u → P u′
+as-used {st} {index} {u} {u′} P s s′ k = subst P (sound-once st index u u′ s s′) k
+
+-- A refusal before any work.
+module _ {lent : Type 0} {known : ℕ → Type 0} {last : ℕ} {right : Type 0} {st : Store} {index : List ℕ} where
+  -- rows 1 and 2 are the check's; the other lengths that a call is lent are right
+  pub check-refuses : {k u e : ℕ} → (Allowed st index → lent) → (lent → Allowed st index) → Checks st index k u e → (k ≡ 0 → ⊥) → Refuses lent known last right st index k
+  check-refuses to from (checked-1 f) n = refused-1 (λ l. f (from l))
+  check-refuses to from (checked-2 a f) n = refused-2 (to a) f
+  check-refuses to from (checked-0 a u s) n = absurd (n refl)
+
+  -- where every check passes there is none,
+  pub not-refused : {k u : ℕ} → lent → SoundLent st index u → known u → right → Refuses lent known last right st index k → ⊥
+  not-refused l s a p (refused-1 f) = f l
+  not-refused l s a p (refused-2 l′ f) = f _ s
+  not-refused l s a p (refused-3 l′ u′ s′ f) = f (as-used known s s′ a)
+  not-refused l s a p (refused-last l′ u′ s′ a′ f) = f p
+
+  -- its number is not 0,
+  pub refused-not-done : {k : ℕ} → (last ≡ 0 → ⊥) → Refuses lent known last right st index k → k ≡ 0 → ⊥
+  refused-not-done n (refused-1 f) e = omega arith
+  refused-not-done n (refused-2 l f) e = omega arith
+  refused-not-done n (refused-3 l u s f) e = omega arith
+  refused-not-done n (refused-last l u s a f) e = n e
+
+  -- and there is one number.
+  pub refuses-once : {k k′ : ℕ} → Refuses lent known last right st index k → Refuses lent known last right st index k′ → k ≡ k′
+  refuses-once (refused-1 f) (refused-1 g) = refl
+  refuses-once (refused-1 f) (refused-2 l g) = absurd (f l)
+  refuses-once (refused-1 f) (refused-3 l u s g) = absurd (f l)
+  refuses-once (refused-1 f) (refused-last l u s a g) = absurd (f l)
+  refuses-once (refused-2 l f) (refused-1 g) = absurd (g l)
+  refuses-once (refused-2 l f) (refused-2 l′ g) = refl
+  refuses-once (refused-2 l f) (refused-3 l′ u s g) = absurd (f u s)
+  refuses-once (refused-2 l f) (refused-last l′ u s a g) = absurd (f u s)
+  refuses-once (refused-3 l u s f) (refused-1 g) = absurd (g l)
+  refuses-once (refused-3 l u s f) (refused-2 l′ g) = absurd (g u s)
+  refuses-once (refused-3 l u s f) (refused-3 l′ u′ s′ g) = refl
+  refuses-once (refused-3 l u s f) (refused-last l′ u′ s′ a g) = absurd (f (as-used known s′ s a))
+  refuses-once (refused-last l u s a f) (refused-1 g) = absurd (g l)
+  refuses-once (refused-last l u s a f) (refused-2 l′ g) = absurd (g u s)
+  refuses-once (refused-last l u s a f) (refused-3 l′ u′ s′ g) = absurd (g (as-used known s s′ a))
+  refuses-once (refused-last l u s a f) (refused-last l′ u′ s′ a′ g) = refl
+
 module _ (st : Store) (index : List ℕ) where
   -- what the check says by its number
   pub passed-check-sound : {k u e : ℕ} → Checks st index k u e → k ≡ 0 → Allowed st index × SoundLent st index u
@@ -52,12 +97,6 @@ module _ (st : Store) (index : List ℕ) where
   pub checks-it : {u e : ℕ} {b : Bool} → Allowed st index → Judges st index u e b → b ≡ true → Checks st index 0 u e
   checks-it {u} a (sound s q) t = rw q (checked-0 a u s)
   checks-it a (unsound f) t = absurd (false≢true t)
-
-  pub check-refuses : {lent : Type 0} {known : ℕ → Type 0} {right : Type 0} {answer : ℕ → right → Bool} {k u e : ℕ} → (Allowed st index → lent) → (lent → Allowed st index) → Checks st index k u e → (k ≡ 0 → ⊥)
-      → Replies lent known right answer st index k false
-  check-refuses to from (checked-1 f) n = reply-1 (λ l. f (from l))
-  check-refuses to from (checked-2 a f) n = reply-2 (to a) f
-  check-refuses to from (checked-0 a u s) n = absurd (n refl)
 
   -- the last answer, from what the code reads with a number that is its argument
   pub hears-it : {u : ℕ} (places : List ℤ) (bools id : ℕ) → Allowed st index × (length places ≡ firstBoolean) → SoundLent st index u → KnownTo u id → Places places
@@ -91,36 +130,11 @@ module _ (st : Store) (index : List ℕ) where
     abbrev Out : ℕ → Bool → Type 0
     Out k b = Replies lent known right answer st index k b
 
-    -- what is known of one number of used nodes is known of the other
-    knows : {u u′ : ℕ} → SoundLent st index u → SoundLent st index u′ → known u → known u′
-    knows {u} {u′} s s′ k = subst known (sound-once st index u u′ s s′) k
-
     pub replies-once : {k k′ : ℕ} {b b′ : Bool} → Out k b → Out k′ b′ → (k ≡ k′) × (b ≡ b′)
-    replies-once (reply-1 f) (reply-1 g) = (refl, refl)
-    replies-once (reply-1 f) (reply-2 r g) = absurd (f r)
-    replies-once (reply-1 f) (reply-3 r u s g) = absurd (f r)
-    replies-once (reply-1 f) (reply-5 r u s k g) = absurd (f r)
-    replies-once (reply-1 f) (reply-0 r u s k p) = absurd (f r)
-    replies-once (reply-2 r f) (reply-1 g) = absurd (g r)
-    replies-once (reply-2 r f) (reply-2 r′ g) = (refl, refl)
-    replies-once (reply-2 r f) (reply-3 r′ u s g) = absurd (f u s)
-    replies-once (reply-2 r f) (reply-5 r′ u s k g) = absurd (f u s)
-    replies-once (reply-2 r f) (reply-0 r′ u s k p) = absurd (f u s)
-    replies-once (reply-3 r u s f) (reply-1 g) = absurd (g r)
-    replies-once (reply-3 r u s f) (reply-2 r′ g) = absurd (g u s)
-    replies-once (reply-3 r u s f) (reply-3 r′ u′ s′ g) = (refl, refl)
-    replies-once (reply-3 r u s f) (reply-5 r′ u′ s′ k g) = absurd (f (knows s′ s k))
-    replies-once (reply-3 r u s f) (reply-0 r′ u′ s′ k p) = absurd (f (knows s′ s k))
-    replies-once (reply-5 r u s k f) (reply-1 g) = absurd (g r)
-    replies-once (reply-5 r u s k f) (reply-2 r′ g) = absurd (g u s)
-    replies-once (reply-5 r u s k f) (reply-3 r′ u′ s′ g) = absurd (g (knows s s′ k))
-    replies-once (reply-5 r u s k f) (reply-5 r′ u′ s′ k′ g) = (refl, refl)
-    replies-once (reply-5 r u s k f) (reply-0 r′ u′ s′ k′ p) = absurd (f p)
-    replies-once (reply-0 r u s k p) (reply-1 g) = absurd (g r)
-    replies-once (reply-0 r u s k p) (reply-2 r′ g) = absurd (g u s)
-    replies-once (reply-0 r u s k p) (reply-3 r′ u′ s′ g) = absurd (g (knows s s′ k))
-    replies-once (reply-0 r u s k p) (reply-5 r′ u′ s′ k′ g) = absurd (g p)
-    replies-once (reply-0 r u s k p) (reply-0 r′ u′ s′ k′ p′) = (refl, same u p p′ ∙ ap (λ (m : ℕ). answer m p′) (sound-once st index u u′ s s′))
+    replies-once (reply-no f) (reply-no g) = (refuses-once f g, refl)
+    replies-once (reply-no f) (reply-0 l u s k p) = absurd (not-refused l s k p f)
+    replies-once (reply-0 l u s k p) (reply-no g) = absurd (not-refused l s k p g)
+    replies-once (reply-0 l u s k p) (reply-0 l′ u′ s′ k′ p′) = (refl, same u p p′ ∙ ap (λ (m : ℕ). answer m p′) (sound-once st index u u′ s s′))
 
   -- a reading's answer does not turn on how its places are shown to be places
   pub hears-once : (places : List ℤ) (bools id : ℕ) {k k′ : ℕ} {b b′ : Bool} → Hears st index places bools id k b → Hears st index places bools id k′ b′ → (k ≡ k′) × (b ≡ b′)

@@ -61,22 +61,26 @@ bit w k = w / 2 ^ k % 2
 abbrev pub readingOf : (places : List ℤ) → ℕ → Places places → Reading
 readingOf places bools ok = record { place = λ v. cutAt places v; holds = λ v. eqb (bit bools (v - firstBoolean)) 1; within = ok }
 
--- A call that answers yes or no and changes nothing: its number, and its answer. "A yes/no call returns no beside any refusal." It is given
---   lent    that the lengths are allowed,
---   known   that the ids are known where this many nodes are used,
---   right   that what it reads is right,
---   answer  the answer where this many nodes are used.
+-- The checks before any work, in the order of document 01's table: why a call is refused, by its number. It is given
+--   lent   that the lengths are allowed,
+--   known  that the ids are known where this many nodes are used,
+--   last   the number of its last check, and
+--   right  what that check asks.
+module _ (lent : Type 0) (known : ℕ → Type 0) (last : ℕ) (right : Type 0) (st : Store) (index : List ℕ) where
+  pub data Refuses : ℕ → Type 0 where
+    -- "a room or length isn't allowed"
+    refused-1 : (lent → ⊥) → Refuses wrongRoom
+    -- "the table isn't sound"
+    refused-2 : lent → Unsound st index → Refuses notSound
+    -- "an id is no terminal and names no used node"
+    refused-3 : lent → (u : ℕ) → SoundLent st index u → (known u → ⊥) → Refuses unknownId
+    refused-last : lent → (u : ℕ) → SoundLent st index u → known u → (right → ⊥) → Refuses last
+
+-- A call that answers yes or no and changes nothing: its number, and its answer, which is `answer` where this many nodes are used. Its last
+-- check is row 5, "a reading lies beyond the end places". "A yes/no call returns no beside any refusal."
 module _ (lent : Type 0) (known : ℕ → Type 0) (right : Type 0) (answer : ℕ → right → Bool) (st : Store) (index : List ℕ) where
   pub data Replies : ℕ → Bool → Type 0 where
-    -- "a room or length isn't allowed"
-    reply-1 : (lent → ⊥) → Replies wrongRoom false
-    -- "the table isn't sound"
-    reply-2 : lent → Unsound st index → Replies notSound false
-    -- "an id is no terminal and names no used node"
-    reply-3 : lent → (u : ℕ) → SoundLent st index u → (known u → ⊥) → Replies unknownId false
-    -- "a reading lies beyond the end places"
-    reply-5 : lent → (u : ℕ) → SoundLent st index u → known u → (right → ⊥) → Replies beyondPlaces false
-    -- "done"
+    reply-no : {k : ℕ} → Refuses lent known beyondPlaces right st index k → Replies k false
     reply-0 : lent → (u : ℕ) → SoundLent st index u → known u → (ok : right) → Replies done (answer u ok)
 
 -- Reading an id is lent a table and 32 places.

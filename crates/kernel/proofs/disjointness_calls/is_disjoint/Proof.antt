@@ -2,7 +2,7 @@
 use native.Mathlib.Omega.{arith}
 use borrow.Author.Tests.{not-true, not-false}
 use Rattle.table.proofs.Laws.{decided-true, decided-false}
-use Rattle.table.specs.Told.{reply-3, reply-0}
+use Rattle.table.specs.Told.{refused-3, reply-no, reply-0}
 use Rattle.table.proofs.Hearing.{passed-check-sound, check-refuses}
 use Rattle.disjointness.proofs.Whole.{sound-asked, sound-answer}
 use borrow.Author.Needs.{needs}
@@ -10,7 +10,7 @@ use Rattle.kernel.proofs.disjointness_calls.is_disjoint.Statement.{stat
 use Rattle.kernel.proofs.disjointness_calls.is_disjoint.Tie as tie
 
 returns : tie.Need-returns
-returns c = check-refuses _ _ (λ a. a) (λ a. a) (c .before .before .check .ensures) (c .if1 .taken)
+returns c = reply-no (check-refuses (λ a. a) (λ a. a) (c .before .before .check .ensures) (c .if1 .taken))
 
 both-known-requires : tie.Need-both-known-requires
 both-known-requires c κs =
@@ -20,7 +20,7 @@ both-known-requires c κs =
 returns-2 : tie.Need-returns-2
 returns-2 c =
     let p = passed-check-sound _ _ (c .before .before .before .before .check .ensures) (c .before .before .if1 .left) in
-    reply-3 (p .0) _ (p .1) (decided-false (c .before .both-known .ensures) (not-true _ (c .if2 .taken)))
+    reply-no (refused-3 (p .0) _ (p .1) (decided-false (c .before .both-known .ensures) (not-true _ (c .if2 .taken))))
 
 is-disjoint-requires : tie.Need-is-disjoint-requires
 is-disjoint-requires c κs =

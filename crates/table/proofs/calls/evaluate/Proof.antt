@@ -2,17 +2,17 @@
 use native.Mathlib.Omega.{arith}
 use borrow.Author.Needs.{needs}
 use borrow.Author.Tests.{not-true, not-false}
-use Rattle.table.specs.Told.{reply-1, reply-3, reply-5}
+use Rattle.table.specs.Told.{refused-1, refused-3, refused-last, reply-no}
 use Rattle.table.proofs.Laws.{decided-true, decided-false}
 use Rattle.table.proofs.Hearing.{known-when-true, unknown-when-false, passed-check-sound, check-refuses, hears-it}
 use Rattle.table.proofs.calls.evaluate.Statement.{statement}
 use Rattle.table.proofs.calls.evaluate.Tie as tie
 
 returns : tie.Need-returns
-returns c = reply-1 (λ x. (c .if1 .taken) (x .1))
+returns c = reply-no (refused-1 (λ x. (c .if1 .taken) (x .1)))
 
 returns-2 : tie.Need-returns-2
-returns-2 c = check-refuses _ _ (λ a. (a, c .before .before .before .if1 .left)) (λ l. l .0) (c .before .before .check .ensures) (c .if2 .taken)
+returns-2 c = reply-no (check-refuses (λ a. (a, c .before .before .before .if1 .left)) (λ l. l .0) (c .before .before .check .ensures) (c .if2 .taken))
 
 cast-is-known : tie.Need-cast-is-known
 cast-is-known c =
@@ -22,12 +22,12 @@ cast-is-known c =
 returns-3 : tie.Need-returns-3
 returns-3 c =
     let p = passed-check-sound _ _ (c .before .before .before .before .before .check .ensures) (c .before .before .before .if2 .left) in
-    reply-3 (p .0, (c .before .before .before .before .before .before .if1 .left)) _ (p .1) (unknown-when-false _ _ (c .before .is-known .ensures) (not-true _ (c .if3 .taken)))
+    reply-no (refused-3 (p .0, (c .before .before .before .before .before .before .if1 .left)) _ (p .1) (unknown-when-false _ _ (c .before .is-known .ensures) (not-true _ (c .if3 .taken))))
 
 returns-4 : tie.Need-returns-4
 returns-4 c =
     let p = passed-check-sound _ _ (c .before .before .before .before .before .before .before .check .ensures) (c .before .before .before .before .before .if2 .left) in
-    reply-5 (p .0, (c .before .before .before .before .before .before .before .before .if1 .left)) _ (p .1) (known-when-true _ _ (c .before .before .before .is-known .ensures) (not-false _ (c .before .before .if3 .left))) (decided-false (c .before .are-places .ensures) (not-true _ (c .if4 .taken)))
+    reply-no (refused-last (p .0, (c .before .before .before .before .before .before .before .before .if1 .left)) _ (p .1) (known-when-true _ _ (c .before .before .before .is-known .ensures) (not-false _ (c .before .before .if3 .left))) (decided-false (c .before .are-places .ensures) (not-true _ (c .if4 .taken))))
 
 reads-requires : tie.Need-reads-requires
 reads-requires c κs =
