@@ -98,6 +98,7 @@ module _ (q : Call) (st : Store) (index memo : List ℕ) {k id : ℕ} {st′ : S
           record {
             before = u;
             found = s;
+            passed = (a, h);
             after = w .used;
             left = w .sound;
             continues = y .right .continues;
@@ -106,7 +107,7 @@ module _ (q : Call) (st : Store) (index memo : List ℕ) {k id : ℕ} {st′ : S
             reached = λ r p n. y .reached r (omega (arith, counted s)) (omega (arith, counted (w .sound)));
           }
 
-  -- What is asked of its answer is one thing: so `means` pins the answer down.
+  -- What is asked of its answer is one thing: so `means` of `Answered`, with its `found` and `passed`, pins the answer down.
   pub asked-exactly : (u : ℕ) → SoundLent st index u → (row q) .known u → (row q) .kind
       → (m : Reading → Bool) × (row q) .asks (held st u) m × ((m′ : Reading → Bool) → (row q) .asks (held st u) m′ → (ρ : Reading) → m ρ ≡ m′ ρ)
   asked-exactly u s a h =

@@ -16,11 +16,13 @@ use Rattle.table.specs.Told.{done}
 use Rattle.kernel.specs.Calls.{Call, row}
 use Rattle.kernel.specs.Makes.{noRoom, Leaves}
 
--- Done: the words before the call and those after it are sound tables; the one after it continues the one before; the id is one of its ids
--- and says under every reading what is asked from the table before; and "every node that a call adds is reached from its answer".
+-- Done: the words before the call and those after it are sound tables; its ids were known and its variable of the kind that is asked; the table
+-- after it continues the one before; the id is one of its ids and says under every reading what is asked from the table before; and "every
+-- node that a call adds is reached from its answer".
 pub record Answered (q : Call) (st : Store) (index : List ℕ) (id : ℕ) (st′ : Store) (index′ : List ℕ) : Type 0 where
   pub before : ℕ
   pub found : SoundLent st index before
+  pub passed : (row q) .known before × (row q) .kind
   pub after : ℕ
   pub left : SoundLent st′ index′ after
   pub continues : Continues (held st before) (held st′ after)
