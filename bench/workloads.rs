@@ -1,8 +1,8 @@
 // The workloads, each written once for all sides.
-use crate::crafted::{one_bucket, Spread};
+use crate::crafted::{one_bucket, one_hash, Spread};
 use crate::families::{both_differ, sums, wide_sums, Pair};
 use crate::sides::{Arg, Ask, Ends, Kept, Work};
-use crate::tables::{random, Node, Rng};
+use crate::tables::{random, wide, Node, Rng};
 use std::ops::Bound::{Excluded, Included, Unbounded};
 
 /// Operators by their numbers.
@@ -79,7 +79,7 @@ pub fn all(filter: &str) -> Vec<Work> {
     }
     list.append(&mut counts());
     list.append(&mut exclusive());
-    list.push(one_chain());
+    list.append(&mut look_ups());
     list.append(&mut families());
     // by their numbers; those of one number stay in order
     list.sort_by(|a, b| a.name[..2].cmp(&b.name[..2]));
@@ -341,29 +341,69 @@ fn exclusive() -> Vec<Work> {
     place.works
 }
 
-/// 1: comparisons that are there, among many of the same variable in one bucket of the index.
-fn one_chain() -> Work {
-    let (room, many) = (4096, 2000);
-    let spread = Spread {
-        vars: 1,
-        counts: vec![2],
-        cut: vec![],
-    };
-    let base = one_bucket(4, many, room, &spread);
-    // below an even cut lie the numbers less than its half, below an odd one those up to it
-    let ask = |node: &Node| match node.cuts[0].rem_euclid(2) {
-        0 => Ask::Compare(0, LT, node.cuts[0].div_euclid(2) as i32),
-        _ => Ask::Compare(0, LE, node.cuts[0].div_euclid(2) as i32),
-    };
+/// 1: nodes that are there, looked for among these in a room for 4,096.
+fn look_up(name: &str, base: Vec<Node>, ask: fn(usize, &Node) -> Ask) -> Work {
     Work {
-        name: "1d comparisons, one bucket, there".into(),
-        room: (room, room * 4),
-        asks: base.iter().take(1000).map(ask).collect(),
+        name: format!("{}, there", name),
+        room: LOOKED_FOR,
+        asks: base.iter().enumerate().map(|(n, x)| ask(n, x)).collect(),
         base,
         before: vec![],
         kept: Kept::Nodes,
         alone: false,
     }
+}
+
+/// The room that nodes are looked for in.
+const LOOKED_FOR: (usize, usize) = (4096, 16384);
+
+/// A comparison as it is asked for: below an even cut lie the numbers less than its half, below an odd one those up to it.
+fn comparison(_: usize, node: &Node) -> Ask {
+    let op = if node.cuts[0] % 2 == 0 { LT } else { LE };
+    Ask::Compare(0, op, node.cuts[0].div_euclid(2) as i32)
+}
+
+/// A node restricted at a switch that it does not test: all its edges are gone over, and then the node is looked for.
+fn itself(n: usize, _: &Node) -> Ask {
+    Ask::Restrict(Arg::answer(n), SWITCH, true)
+}
+
+/// 1: what a look-up costs: in a long chain of the index; of wide nodes, nearly each in a bucket of its own; and among nodes of one bucket and
+/// variable that differ in the number of edges, or agree up to the last edges, with hashes that differ or with one hash.
+fn look_ups() -> Vec<Work> {
+    let room = LOOKED_FOR.0;
+    let chained = |seed, many, counts: &[usize]| {
+        let spread = Spread {
+            vars: 1,
+            counts: counts.into(),
+            cut: vec![],
+        };
+        one_bucket(seed, many, room, &spread)
+    };
+    let counts: Vec<usize> = (2..=28).collect();
+    vec![
+        look_up(
+            "1d comparisons, one bucket",
+            chained(4, 1000, &[2]),
+            comparison,
+        ),
+        look_up("1e wide nodes", wide(8, 250, 64), itself),
+        look_up(
+            "1f one bucket, other counts",
+            chained(9, 1000, &counts),
+            itself,
+        ),
+        look_up(
+            "1g one bucket, other last edge",
+            chained(10, 250, &[64]),
+            itself,
+        ),
+        look_up(
+            "1h one hash, other last edges",
+            one_hash(250, room, 64),
+            itself,
+        ),
+    ]
 }
 
 /// A pair of a family as base, with so much room for each node, and one call about it.

@@ -115,7 +115,10 @@ impl Composer<'_> {
             let last = self.make(Boolean { variable });
             let (this, that) = (self.one_of_last(&tower), self.one_of_last(&tower));
             let x = self.make(And { x: this, y: last });
-            let y = self.make(And { x: that, y: last ^ 1 });
+            let y = self.make(And {
+                x: that,
+                y: last ^ 1,
+            });
             self.call(Disjoint { x, y });
             let mut corner = last;
             for variable in self.matter.booleans.clone() {
@@ -213,8 +216,8 @@ impl Composer<'_> {
         }
     }
 
-    /// c) Nodes of one hash, which differ in variable, in the number of edges, in a child or in a cut alone: only these show how a bucket is
-    /// ordered behind the hash. The room is small mostly, so that nodes are taken back from among them; damage follows.
+    /// c) Nodes of one hash, which differ in variable, in the number of edges, in a child or in a cut alone, the third of three too: only these
+    /// show how a bucket is ordered behind the hash, and that no edge is passed over. The room is small mostly, so that nodes are taken back from among them; damage follows.
     pub fn colliding(&mut self) {
         self.choose(2, 2);
         let nodes = self.random.between(6, 40);
@@ -230,7 +233,7 @@ impl Composer<'_> {
         let hash = split(variables[0], &[0, 1], &[first]).hash();
         for _ in 0..self.times(8, 16) {
             let variable = self.random.pick(&variables);
-            let call = match self.random.below(3) {
+            let call = match self.random.below(4) {
                 0 => below(
                     variable,
                     self.one_of_two(&split(variable, &[0, 1], &[0]), hash),
@@ -241,16 +244,21 @@ impl Composer<'_> {
                     let x = self.make(below(variable, cut));
                     And { x, y: switch }
                 }
-                _ => {
+                2 => {
                     let lower = 2 * (self.random.below(8) as i64 - (1 << 31));
                     let cut = self.one_of_two(&split(variable, &[0, 1, 0], &[lower, 0]), hash);
-                    Range {
-                        variable,
-                        bounds: Bounds {
-                            lower: Bound::Included((lower / 2) as i32),
-                            upper: upper_of(cut),
-                        },
-                    }
+                    up_to(variable, lower, cut)
+                }
+                _ => {
+                    let (first, second) = (
+                        2 * (self.random.below(2) as i64 - (1 << 31)),
+                        2 * (2 - (1 << 31)),
+                    );
+                    let record = split(variable, &[0, 1, 0, 1], &[first, second, 0]);
+                    let cut = self.one_of_two(&record, hash);
+                    let x = self.make(below(variable, first));
+                    let y = self.make(up_to(variable, second, cut));
+                    Or { x, y }
                 }
             };
             self.make(call);
@@ -475,6 +483,17 @@ fn upper_of(cut: i64) -> Bound<i32> {
         Bound::Excluded(key)
     } else {
         Bound::Included(key)
+    }
+}
+
+/// The condition that a variable lies from an even cut, where a key begins, up to another cut.
+fn up_to(variable: u32, lower: i64, cut: i64) -> Operation {
+    Range {
+        variable,
+        bounds: Bounds {
+            lower: Bound::Included((lower / 2) as i32),
+            upper: upper_of(cut),
+        },
     }
 }
 

@@ -88,7 +88,9 @@ fn composed(
     style: Style,
     compose: &fn(&mut Composer<'_>),
 ) -> (Sequence, Counts) {
-    let mut composer = Composer::new(random, style);
+    // Its numbers are its own, so that a kind of sequences can change and the others stay.
+    let mut own = Random::new(random.bits());
+    let mut composer = Composer::new(&mut own, style);
     compose(&mut composer);
     let (sequence, mut model) = composer.finish();
     if let Some(objection) = model.objection {
