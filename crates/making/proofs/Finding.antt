@@ -5,14 +5,13 @@ use mathlib.Core.List.{List, _∷_}
 use Prim.Native.Nat.{ℕ, zero, suc, _-_, _≤_, _<_}
 use native.Mathlib.Omega.{arith}
 use lib.ListN.{length}
-use Rattle.ids.specs.Id.{under}
 use Rattle.diagram.specs.Shape.{Reduced}
 use Rattle.diagram.specs.Table.{topOf, Node, Table, at}
 use Rattle.diagram.specs.Sound.{Sound}
 use Rattle.diagram.proofs.Facts.{at-inj}
 use Rattle.algebra.specs.Making.{find}
 use Rattle.algebra.proofs.Making.{find-found}
-use Rattle.chains.specs.Lexical.{less, run}
+use Rattle.chains.specs.Lexical.{less}
 use Rattle.chains.proofs.Lexical.{less-skip}
 use Rattle.chains.proofs.Inserted.{place-new}
 use Rattle.table.specs.Layout.{countAt, room, Store}
@@ -25,7 +24,7 @@ use Rattle.table.proofs.Scan.{table-length}
 use Rattle.making.specs.declared.chain.Front.{Front}
 use Rattle.making.specs.declared.chain.Spot.{Spot}
 use Rattle.making.specs.declared.edges.Edges as built
-use Rattle.making.specs.Building.{childIn, keyIn, piecesOf, nodeOf, hashIn, contentOf}
+use Rattle.making.specs.Building.{piecesOf, nodeOf, hashIn, contentOf}
 use Rattle.making.specs.Seeking.{Ordered, restAt, frontOf, restIn, fronted, bucketOf, Low, High, Place, Passed, Sought, Finds}
 use Rattle.making.proofs.Hashing.{hash-in-lt}
 use Rattle.making.proofs.Matching.{matches-node, node-matches, bucket-matches, content-matches, matches-content}
@@ -102,11 +101,6 @@ module _ {st : Store} {index : List ℕ} {u : ℕ} (z : SoundLent st index u) (s
         at-is = (let a : r .at ≡ suc (r .at - 1) = omega arith in a) ∙ sym (found-record st u (nodeOf v s es) index (r .at - 1) z (omega (arith, find-within)) (matches-node two red (matches-content (as-many ∙ (ap (fronted h f) e ∙ sym whole)))));
         placed = λ d. absurd (omega arith);
       }
-
-      -- two edges are all in the front
-      pub find-two : es .len ≡ 2 → Finds st u v s es r
-      unfolding run
-      find-two e = find-same (ap (restAt st (r .at - 1)) e ∙ sym (ap (λ (k : ℕ). run (λ j. under s (childIn es j)) (keyIn v es) 2 (k - 2)) e))
 
       module _ {o : ℕ} (c : Ordered (restAt st (r .at - 1) (es .len)) (restIn v s es) o) where
         low : o ≡ 0 → Low st new (r .at - 1)

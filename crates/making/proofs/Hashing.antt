@@ -48,9 +48,13 @@ pub key-own : (v j : ℕ) (es : built.Edges) → v < 32 → j + 1 < es .len → 
 unfolding keyIn
 key-own v j es h l = rw (lt-ltb v 32 h, lt-ltb (j + 1) (es .len) l)
 
-pub key-last : (v j : ℕ) (es : built.Edges) → v < 32 → es .len ≤ j + 1 → keyIn v es j ≡ zeroCut
+pub key-none : (v j : ℕ) (es : built.Edges) → es .len ≤ j + 1 → keyIn v es j ≡ zeroCut
 unfolding keyIn
-key-last v j es h l = rw (lt-ltb v 32 h, le-ltb (j + 1) (es .len) l)
+key-none v j es l = go (isRange v)
+  where
+    go : (b : Bool) → cond (b && ltb (j + 1) (es .len)) (cutIn es j) zeroCut ≡ zeroCut
+    go true = rw (le-ltb (j + 1) (es .len) l)
+    go false = refl
 
 pub key-bool : (v j : ℕ) (es : built.Edges) → 32 ≤ v → keyIn v es j ≡ zeroCut
 unfolding keyIn

@@ -10,7 +10,7 @@ pub mod Merged
 pub mod Stores
 pub mod Stored
 pub mod Spliced
-pub mod Pairs
+pub mod Two
 pub mod Frames
 pub mod Grown
 pub mod Shrunk

@@ -19,7 +19,7 @@ use Rattle.table.proofs.Determined.{count-node, kid-node, cut-position-node, no
 use Rattle.making.specs.declared.edges.Edges as built
 use Rattle.making.specs.Building.{childIn, cutIn, piecesOf, nodeOf, keyIn, hashIn, contentOf}
 use Rattle.making.proofs.Arrays.{kid-run, cut-run, bool-two, bool-cut}
-use Rattle.making.proofs.Hashing.{key-own, key-last, key-bool}
+use Rattle.making.proofs.Hashing.{key-own, key-none, key-bool}
 
 -- Record n is this node.
 pub record Matches (st : Store) (n v s : ℕ) (es : built.Edges) : Type 0 where
@@ -98,7 +98,7 @@ node-matches {st} {n} {v} {s} {es} r some q = record {
 
     at-start : (j : ℕ) → j < es .len → (v < 32) ⊎ (32 ≤ v) → (j + 1 < es .len) ⊎ (es .len ≤ j + 1) → cutPosition (cutAt (st .cuts) (start (st .nodes) n + j)) ≡ keyIn v es j
     at-start j l (inl h) (inl g) = sym (cut-position-node st n r j (omega (arith, same-var)) (omega (arith, same-count))) ∙ ap (λ (e : Pieces ℕ). cut-of e j) edges ∙ cut-of-node v s es j g ∙ sym (key-own v j es h g)
-    at-start j l (inl h) (inr g) = ap cutPosition (no-cut-last st n r j (omega (arith, same-var)) (omega (arith, same-count)) (omega (arith, same-count))) ∙ sym (key-last v j es h g)
+    at-start j l (inl h) (inr g) = ap cutPosition (no-cut-last st n r j (omega (arith, same-var)) (omega (arith, same-count)) (omega (arith, same-count))) ∙ sym (key-none v j es g)
     at-start j l (inr h) g = ap cutPosition (no-cut-bool st n r j (omega (arith, same-var)) (omega (arith, same-count))) ∙ sym (key-bool v j es h)
 
 -- the hash of a record that matches, and its bucket

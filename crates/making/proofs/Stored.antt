@@ -30,7 +30,7 @@ use Rattle.making.specs.declared.edges.Edges as built
 use Rattle.making.specs.Building.{Building, childIn, cutIn, keyIn, piecesOf, zeroCut}
 use Rattle.making.specs.Storing.{storedCut, EdgesPut, RecordPut}
 use Rattle.making.proofs.Arrays.{step-in, cut-most, bool-two}
-use Rattle.making.proofs.Hashing.{key-own}
+use Rattle.making.proofs.Hashing.{key-own, key-none}
 
 -- A stored cut by its position,
 cut-position-stored : (v j count k : ℕ) → k ≤ top → cutPosition (storedCut v j count k) ≡ cond (isRange v && ltb (j + 1) count) k zeroCut
@@ -41,25 +41,21 @@ cut-position-stored v j count k h = go (isRange v && ltb (j + 1) count)
     go false = refl
 
 -- and where there is none.
-last-cut : (v j count k : ℕ) → count ≤ j + 1 → storedCut v j count k ≡ pos 0
+pub last-cut : (v j count k : ℕ) → count ≤ j + 1 → storedCut v j count k ≡ pos 0
 last-cut v j count k l = go (isRange v)
   where
     go : (b : Bool) → cond (b && ltb (j + 1) count) (placeAt k) (pos 0) ≡ pos 0
     go true = rw (le-ltb (j + 1) count l)
     go false = refl
 
-pub bool-none : (v j count k : ℕ) → firstBoolean ≤ v → storedCut v j count k ≡ pos 0
+bool-none : (v j count k : ℕ) → firstBoolean ≤ v → storedCut v j count k ≡ pos 0
 bool-none v j count k h = rw (le-ltb v firstBoolean h)
 
 -- The cut that is stored is the key of its edge.
 module _ (v : ℕ) (es : built.Edges) (red : Reduced 0 (topOf v) (piecesOf es)) where
   pub cut-position-put : (j : ℕ) → j < es .len → cutPosition (storedCut v j (es .len) (cutIn es j)) ≡ keyIn v es j
   unfolding keyIn
-  cut-position-put j l = ⊎-elim (λ h. cut-position-stored v j (es .len) (cutIn es j) (cut-most v es red j h)) (λ h. ap cutPosition (last-cut v j (es .len) (cutIn es j) h) ∙ sym (none (isRange v) h)) (laws.lt-or-le (j + 1) (es .len))
-    where
-      none : (b : Bool) → es .len ≤ j + 1 → cond (b && ltb (j + 1) (es .len)) (cutIn es j) zeroCut ≡ zeroCut
-      none true h = rw (le-ltb (j + 1) (es .len) h)
-      none false h = refl
+  cut-position-put j l = ⊎-elim (λ h. cut-position-stored v j (es .len) (cutIn es j) (cut-most v es red j h)) (λ h. ap cutPosition (last-cut v j (es .len) (cutIn es j) h) ∙ sym (key-none v j es h)) (laws.lt-or-le (j + 1) (es .len))
 
 module _ {st : Store} {u e v s : ℕ} {es : built.Edges} {st′ : Store} (known : v < variables) (b : Building es) (many : 2 ≤ es .len)
     (red : Reduced 0 (topOf v) (piecesOf es)) (kids : Each (Child (held st u) (suc v)) (piecesOf es)) (sgn : sign (childIn es 0) ≡ s)

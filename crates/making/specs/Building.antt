@@ -6,7 +6,6 @@ use Prim.Native.Nat.{ℕ, zero, suc, _+_, _-_, _%_, _≤_, _^_}
 use lib.Dec.{ltb}
 use lib.ListN.{length, getD, set, replicate}
 use Rattle.ids.specs.Id.{under}
-use Rattle.ids.specs.declared.NodeId.{NodeId}
 use Rattle.chains.specs.Lexical.{key}
 use Rattle.diagram.specs.Pieces.{Pieces}
 use Rattle.diagram.specs.Shape.{run}
@@ -56,10 +55,9 @@ hashIn v s es (suc j) = mix (hashIn v s es j) (under s (childIn es j)) (keyIn v 
 unfoldable pub contentOf : ℕ → ℕ → built.Edges → List ℕ
 contentOf v s es = key (hashIn v s es (es .len)) v (es .len) (λ j. under s (childIn es j)) (keyIn v es)
 
--- A high edge and a low one. A boolean has two positions, 0 for yes and 1 for no, so the high edge ends before 1. The code makes boolean nodes
--- from the two ids; this is the form in which the same is said of them as of other nodes.
-unfoldable pub pairList : NodeId → NodeId → List Edge
-pairList high low = set (set (replicate mostEdges none) 0 (record { cut = 1; child = high; spare = 0 })) 1 (record { cut = 0; child = low; spare = 0 })
+-- A node of two edges. The code makes it from the two alone; this is the form in which the same is said of it as of other nodes.
+unfoldable pub twoList : Edge → Edge → List Edge
+twoList a b = set (set (replicate mostEdges none) 0 a) 1 b
 
-abbrev pub pairOf : NodeId → NodeId → built.Edges
-pairOf high low = record { list = pairList high low; len = 2 }
+abbrev pub twoOf : Edge → Edge → built.Edges
+twoOf a b = record { list = twoList a b; len = 2 }

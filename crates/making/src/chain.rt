@@ -240,10 +240,6 @@ pub fn find(
     let mut s = seek(nodes, children, cuts, index, h, f, 0);
     // A second turn is for nodes of one hash whose first edges agree as well.
     while 0 < s.at {
-        // Two edges are all in the front: nothing is left to compare, and no array to hand on.
-        if es.len == 2 {
-            return s;
-        }
         let by_rest = rest_compared(nodes, children, cuts, s.at - 1, v, lead, es);
         if by_rest == SAME {
             return s;

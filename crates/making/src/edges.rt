@@ -5,9 +5,9 @@ ghost use Prim.Native.Nat.{ℕ, _+_, _-_, _<_, _≤_};
 ghost use lib.Dec.{ltb};
 ghost use lib.ListN.{length};
 ghost use Rattle.ids.specs.Id.{sign};
-ghost use Rattle.diagram.specs.Table.{variables, firstBoolean, isRange, mostEdges};
+ghost use Rattle.diagram.specs.Table.{variables, isRange, mostEdges};
 ghost use Rattle.algebra.specs.Overlay.{merge};
-ghost use Rattle.making.specs.Building.{Building, cutIn, piecesOf, zeroCut, hashIn, pairOf};
+ghost use Rattle.making.specs.Building.{Building, cutIn, piecesOf, zeroCut, hashIn, twoOf};
 ghost use Rattle.making.specs.Storing.{storedCut};
 use ids::NodeId;
 use ranges::places::ZERO;
@@ -134,13 +134,15 @@ pub fn hash_edges(v: usize, lead: NodeId, es: Edges) -> usize
     h
 }
 
-// The same of a boolean node, from its two children.
-pub fn hash_pair(v: usize, high: NodeId, low: NodeId) -> usize
-    requires { ⌜ (firstBoolean ≤ v) × (v < variables) ⌝ }
-    ensures { λ r. ⌜ (r ≡ hashIn v (sign (high .0)) (pairOf high low) 2) × (r < 4294967296) ⌝ }
+// The same of a node of two edges, from these.
+pub fn hash_two(v: usize, a: Edge, b: Edge) -> usize
+    requires { ⌜ (v < variables) × (a .cut < 8589934593) ⌝ }
+    ensures { λ r. ⌜ (r ≡ hashIn v (sign (a .child .0)) (twoOf a b) 2) × (r < 4294967296) ⌝ }
 {
-    let a = high.negate(high);
-    let b = low.negate(high);
-    let h = mixed(v, wide(a.0), ZERO as usize);
-    mixed(h, wide(b.0), ZERO as usize)
+    let lead = a.child;
+    let x = lead.negate(lead);
+    let y = b.child.negate(lead);
+    let h = mixed(v, wide(x.0), key_of(v, 0, 2, a.cut));
+    // The last edge has no cut.
+    mixed(h, wide(y.0), ZERO as usize)
 }

@@ -3,17 +3,16 @@ ghost use mathlib.Core.Path.{_≡_};
 ghost use mathlib.Core.Bool.{true};
 ghost use Prim.Native.Nat.{ℕ, suc, _+_, _*_, _/_, _<_, _≤_};
 ghost use lib.ListN.{length};
-ghost use lib.IntN.{pos};
 ghost use Rattle.ids.specs.Id.{sign, under};
 ghost use Rattle.diagram.specs.Table.{variables, firstBoolean, mostEdges};
 ghost use Rattle.diagram.specs.Sound.{Child};
 ghost use Rattle.algebra.specs.Making.{settle as settled, create-node};
 ghost use Rattle.table.specs.Deciding.{Decides};
 ghost use Rattle.table.specs.Layout.{mostNodes, mostEdgeRoom, room, store};
-ghost use Rattle.making.specs.Building.{Building, childIn, cutIn, nodeOf, hashIn, pairOf, piecesOf};
+ghost use Rattle.making.specs.Building.{Building, childIn, cutIn, nodeOf, hashIn, twoOf, piecesOf};
 ghost use Rattle.making.specs.Growing.{NodeIn};
 ghost use Rattle.making.specs.Seeking.{Finds};
-ghost use Rattle.making.specs.Storing.{EdgesPut, EdgesWritten, RecordPut};
+ghost use Rattle.making.specs.Storing.{EdgesPut, RecordPut};
 ghost use Rattle.making.specs.Outcome.{Lent, Creates, Buildable, Mergeable, Added, create-pair, tableOf};
 use super::chain::Spot;
 use super::chain::find;
@@ -23,7 +22,7 @@ use super::chain::splice;
 use super::edges::Edge;
 use super::edges::Edges;
 use super::edges::hash_edges;
-use super::edges::hash_pair;
+use super::edges::hash_two;
 use super::edges::merged;
 use super::edges::stored_cut;
 use ids::NodeId;
@@ -73,16 +72,19 @@ fn put_edges(children: &mut [u32], cuts: &mut [i64], e: usize, v: usize, lead: N
     }
 }
 
-// Writes the two edges of a boolean node from edge e on. No cut of a boolean is stored.
-fn put_pair(children: &mut [u32], cuts: &mut [i64], e: usize, high: NodeId, low: NodeId)
-    requires { ⌜ (e + 2 ≤ length (now children)) × (length (now cuts) ≡ length (now children)) ⌝ }
-    ensures { λ _. ⌜ EdgesWritten (now (children .entry)) (now (cuts .entry)) e 2 (λ j. under (sign (high .0)) (childIn (pairOf high low) j)) (λ j. pos 0) (now (children .exit)) (now (cuts .exit)) ⌝ }
+// Writes the two edges of a node from edge e on.
+fn put_two(children: &mut [u32], cuts: &mut [i64], e: usize, v: usize, a: Edge, b: Edge)
+    requires { ⌜ (e + 2 ≤ length (now children)) × (length (now cuts) ≡ length (now children)) × (a .cut < 8589934593) ⌝ }
+    ensures { λ _. ⌜ EdgesPut (now (children .entry)) (now (cuts .entry)) e v (sign (a .child .0)) (twoOf a b) (now (children .exit)) (now (cuts .exit)) ⌝ }
 {
-    let a = high.negate(high);
-    let b = low.negate(high);
-    children[e] = a.0;
-    cuts[e] = 0;
-    children[e + 1] = b.0;
+    let lead = a.child;
+    let x = lead.negate(lead);
+    let y = b.child.negate(lead);
+    let z = stored_cut(v, 0, 2, a.cut);
+    children[e] = x.0;
+    cuts[e] = z;
+    children[e + 1] = y.0;
+    // The last edge has no cut.
     cuts[e + 1] = 0;
 }
 
@@ -153,23 +155,23 @@ fn add(
     enter(nodes, index, used, v, es.len, h, s)
 }
 
-// The same for a boolean node.
-fn add_pair(
+// The same for a node of two edges.
+fn add_two(
     nodes: &mut [u32],
     children: &mut [u32],
     cuts: &mut [i64],
     index: &mut [u32],
     used: Used,
     v: usize,
-    high: NodeId,
-    low: NodeId,
+    a: Edge,
+    b: Edge,
     h: usize,
     s: Spot,
 ) -> Used
-    requires { ⌜ (Lent used (store (now nodes) (now children) (now cuts)) (now index)) × (Buildable (tableOf used (store (now nodes) (now children) (now cuts))) v (pairOf high low)) × (firstBoolean ≤ v) × (h ≡ hashIn v (sign (high .0)) (pairOf high low) 2) × (Finds (store (now nodes) (now children) (now cuts)) (used .nodes) v (sign (high .0)) (pairOf high low) s) × (s .at ≡ 0) × (used .nodes < room (now nodes)) × (used .edges + 2 ≤ length (now children)) ⌝ }
-    ensures { λ r. ⌜ Added used (nodeOf v (sign (high .0)) (pairOf high low)) r (store (now (nodes .entry)) (now (children .entry)) (now (cuts .entry))) (store (now (nodes .exit)) (now (children .exit)) (now (cuts .exit))) (now (index .exit)) ⌝ }
+    requires { ⌜ (Lent used (store (now nodes) (now children) (now cuts)) (now index)) × (Buildable (tableOf used (store (now nodes) (now children) (now cuts))) v (twoOf a b)) × (h ≡ hashIn v (sign (a .child .0)) (twoOf a b) 2) × (Finds (store (now nodes) (now children) (now cuts)) (used .nodes) v (sign (a .child .0)) (twoOf a b) s) × (s .at ≡ 0) × (used .nodes < room (now nodes)) × (used .edges + 2 ≤ length (now children)) ⌝ }
+    ensures { λ r. ⌜ Added used (nodeOf v (sign (a .child .0)) (twoOf a b)) r (store (now (nodes .entry)) (now (children .entry)) (now (cuts .entry))) (store (now (nodes .exit)) (now (children .exit)) (now (cuts .exit))) (now (index .exit)) ⌝ }
 {
-    put_pair(children, cuts, used.edges, high, low);
+    put_two(children, cuts, used.edges, v, a, b);
     enter(nodes, index, used, v, 2, h, s)
 }
 
@@ -215,21 +217,21 @@ pub fn extend(
     known(next.nodes, lead, next)
 }
 
-// The same for a boolean node.
-fn extend_pair(
+// The same for a node of two edges.
+fn extend_two(
     nodes: &mut [u32],
     children: &mut [u32],
     cuts: &mut [i64],
     index: &mut [u32],
     used: Used,
     v: usize,
-    high: NodeId,
-    low: NodeId,
+    a: Edge,
+    b: Edge,
     h: usize,
     s: Spot,
 ) -> Made
-    requires { ⌜ (Lent used (store (now nodes) (now children) (now cuts)) (now index)) × (Buildable (tableOf used (store (now nodes) (now children) (now cuts))) v (pairOf high low)) × (firstBoolean ≤ v) × (h ≡ hashIn v (sign (high .0)) (pairOf high low) 2) × (Finds (store (now nodes) (now children) (now cuts)) (used .nodes) v (sign (high .0)) (pairOf high low) s) × (s .at ≡ 0) ⌝ }
-    ensures { λ r. ⌜ Creates used (settled (tableOf used (store (now (nodes .entry)) (now (children .entry)) (now (cuts .entry)))) v (piecesOf (pairOf high low))) r (store (now (nodes .entry)) (now (children .entry)) (now (cuts .entry))) (now (index .entry)) (store (now (nodes .exit)) (now (children .exit)) (now (cuts .exit))) (now (index .exit)) ⌝ }
+    requires { ⌜ (Lent used (store (now nodes) (now children) (now cuts)) (now index)) × (Buildable (tableOf used (store (now nodes) (now children) (now cuts))) v (twoOf a b)) × (h ≡ hashIn v (sign (a .child .0)) (twoOf a b) 2) × (Finds (store (now nodes) (now children) (now cuts)) (used .nodes) v (sign (a .child .0)) (twoOf a b) s) × (s .at ≡ 0) ⌝ }
+    ensures { λ r. ⌜ Creates used (settled (tableOf used (store (now (nodes .entry)) (now (children .entry)) (now (cuts .entry)))) v (piecesOf (twoOf a b))) r (store (now (nodes .entry)) (now (children .entry)) (now (cuts .entry))) (now (index .entry)) (store (now (nodes .exit)) (now (children .exit)) (now (cuts .exit))) (now (index .exit)) ⌝ }
 {
     if !has_room(nodes.len() / RECORD_WORDS, children.len(), used, 2) {
         return Made {
@@ -238,8 +240,40 @@ fn extend_pair(
             used,
         };
     }
-    let next = add_pair(nodes, children, cuts, index, used, v, high, low, h, s);
-    known(next.nodes, high, next)
+    let next = add_two(nodes, children, cuts, index, used, v, a, b, h, s);
+    known(next.nodes, a.child, next)
+}
+
+// The id of variable v over two edges whose children differ: `settle` below, for what most nodes are, comparisons and switches. Two edges are
+// all in the front, so the node is hashed, looked for and written from them, and no array of edges is set, copied or compared.
+fn settle_two(
+    nodes: &mut [u32],
+    children: &mut [u32],
+    cuts: &mut [i64],
+    index: &mut [u32],
+    used: Used,
+    v: usize,
+    a: Edge,
+    b: Edge,
+) -> Made
+    requires { ⌜ (Lent used (store (now nodes) (now children) (now cuts)) (now index)) × (Buildable (tableOf used (store (now nodes) (now children) (now cuts))) v (twoOf a b)) ⌝ }
+    ensures { λ r. ⌜ Creates used (settled (tableOf used (store (now (nodes .entry)) (now (children .entry)) (now (cuts .entry)))) v (piecesOf (twoOf a b))) r (store (now (nodes .entry)) (now (children .entry)) (now (cuts .entry))) (now (index .entry)) (store (now (nodes .exit)) (now (children .exit)) (now (cuts .exit))) (now (index .exit)) ⌝ }
+{
+    let lead = a.child;
+    let h = hash_two(v, a, b);
+    let s = seek(
+        nodes,
+        children,
+        cuts,
+        index,
+        h,
+        front_of(v, lead, 2, a, b),
+        0,
+    );
+    if 0 < s.at {
+        return known(s.at, lead, used);
+    }
+    extend_two(nodes, children, cuts, index, used, v, a, b, h, s)
 }
 
 // The id of variable v over merged edges: "drop the node if all children agree, else find it or add it as the next number". Where there is
@@ -265,6 +299,10 @@ pub fn settle(
             id: lead,
             used,
         };
+    }
+    if es.len == 2 {
+        let second = es.list[1];
+        return settle_two(nodes, children, cuts, index, used, v, first, second);
     }
     // "Flip if the first child is complemented", since a node and its flipped twin would be two ids for one condition. No copy is made:
     // the node is hashed, compared and stored with each child seen under the sign of the first, and its id gets that sign.
@@ -294,8 +332,7 @@ pub fn create_node(
     settle(nodes, children, cuts, index, used, v, merged(es))
 }
 
-// The same for a boolean variable, from its two children. Most nodes of a diagram over booleans are made by this call: they are hashed, looked
-// for and written from the two ids, and no array of edges is set or copied.
+// The same for a boolean variable, from its two children.
 pub fn create_pair(
     nodes: &mut [u32],
     children: &mut [u32],
@@ -317,6 +354,7 @@ pub fn create_pair(
             used,
         };
     }
+    // A boolean has two positions, 0 for yes and 1 for no, so the high edge ends before 1.
     let a = Edge {
         cut: 1,
         child: high,
@@ -327,18 +365,5 @@ pub fn create_pair(
         child: low,
         spare: 0,
     };
-    let h = hash_pair(v, high, low);
-    let s = seek(
-        nodes,
-        children,
-        cuts,
-        index,
-        h,
-        front_of(v, high, 2, a, b),
-        0,
-    );
-    if 0 < s.at {
-        return known(s.at, high, used);
-    }
-    extend_pair(nodes, children, cuts, index, used, v, high, low, h, s)
+    settle_two(nodes, children, cuts, index, used, v, a, b)
 }
