@@ -58,14 +58,13 @@ const BEHIND: usize = 2;
 fn compared(x: usize, y: usize) -> usize
     ensures { λ r. ⌜ Ordered (x ∷ []) (y ∷ []) r ⌝ }
 {
-    // Nearly always they are, where edges are compared at all.
-    if x == y {
-        return SAME;
-    }
     if x < y {
         return BEFORE;
     }
-    BEHIND
+    if y < x {
+        return BEHIND;
+    }
+    SAME
 }
 
 // How edge i stands to one of child c and cut k.
