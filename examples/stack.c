@@ -59,9 +59,11 @@ static void build(uint32_t variables) {
         x = both(a, x);
         y = both(b, y);
     }
+    // Three edges, for which the kernel calls memcpy: so it is bound already when calls are measured, which takes stack of its own.
+    must_be_done("from_range", spanwhistle_from_range(LENT, 0, SPANWHISTLE_INCLUDES, 2, SPANWHISTLE_INCLUDES, 3, &a));
 }
 
-// The calls that are measured. `build` made calls before, so memcpy and memset are bound already, which takes stack of its own.
+// The calls that are measured.
 #define CALL(name, ...) \
     static void call_##name(void) { number = spanwhistle_##name(__VA_ARGS__); }
 CALL(and, LENT, MEMO, x, y, &answer)

@@ -1,7 +1,7 @@
 /*
  * Spanwhistle: compares the conditions of correction rules exactly. This header is for C99 and C++; link target/staticlib/libspanwhistle.a,
  * which `rt staticlib spanwhistle` makes, or `tools/install` with a pkg-config file. The archive needs memcpy and memset and nothing else. It
- * has 35 KB of code and constants, if all calls are linked, and no data (34,724, 0 and 0 bytes of text, data and bss by `size`, x86-64).
+ * has 35 KB of code and constants, if all calls are linked, and no data (35,409, 0 and 0 bytes of text, data and bss by `size`, x86-64).
  *
  * WHAT A TABLE IS
  *
@@ -57,17 +57,17 @@
  * nothing (spanwhistle_check, spanwhistle_evaluate, spanwhistle_is_disjoint) on the same table too.
  *
  * Calls that walk down a table call themselves, once for each variable on the way, and most of them with an array of 64 edges each time
- * (`and` and `or` at range variables alone). They need a deep stack. Enough in our deepest test were 91,840 bytes for `restrict`, 82,384
- * for `and` and `or`, 52,896 for `widen`, 48,752 for `narrow`, 39,816 for `is_disjoint`, 2,896 for a condition and 400 for the rest. The
+ * (`and` and `or` at range variables alone). They need a deep stack. Enough in our deepest test were 92,208 bytes for `restrict`, 83,392
+ * for `and` and `or`, 52,944 for `widen`, 49,120 for `narrow`, 39,816 for `is_disjoint`, 2,944 for a condition and 400 for the rest. The
  * test is examples/stack.c: conditions over all 64 variables, on x86-64 with this project's compiler. It is measured and not proved, and
  * another machine has other figures. SPANWHISTLE_STACK_JOIN and the like are these, rounded up. Conditions that
  * test fewer variables take less:
  *
  *     variables         2       4       8      16      32      64
- *     and, or       4,112   8,080  16,016  31,888  63,632  82,384
- *     restrict      4,544   7,360  12,992  24,256  46,784  91,840
- *     narrow        4,608   7,456  13,152  24,544  47,328  48,752
- *     widen         8,696  11,544  17,240  28,632  51,416  52,896
+ *     and, or       4,496   8,496  16,496  32,496  64,496  83,392
+ *     restrict      4,912   7,728  13,360  24,624  47,152  92,208
+ *     narrow        4,976   7,824  13,520  24,912  47,696  49,120
+ *     widen         8,744  11,592  17,288  28,680  51,464  52,944
  *     is_disjoint   5,096   6,216   8,456  12,936  21,896  39,816
  *
  * where all variables but one are ranges, as far as there are: a boolean takes `and` and `or` less, and narrow and widen go no deeper than
