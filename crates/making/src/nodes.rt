@@ -244,8 +244,8 @@ fn extend_two(
     known(next.nodes, a.child, next)
 }
 
-// The id of variable v over two edges whose children differ: `settle` below, for what most nodes are, comparisons and switches. Two edges are
-// all in the front, so the node is hashed, looked for and written from them, and no array of edges is set, copied or compared.
+// The id of variable v over two edges whose children differ, as thresholds and switches have them: what `settle` does, without an array of
+// edges. Two edges are all in the front, so the node is hashed, looked for and written from them alone.
 fn settle_two(
     nodes: &mut [u32],
     children: &mut [u32],
@@ -300,6 +300,7 @@ pub fn settle(
             used,
         };
     }
+    // Most nodes have two edges, and to hand the array on for them copies 1 KB each time.
     if es.len == 2 {
         let second = es.list[1];
         return settle_two(nodes, children, cuts, index, used, v, first, second);
