@@ -39,7 +39,7 @@ and `below`, or `stripped` where rt compiled nothing; a busy machine disturbs it
 `fresh 64` is an empty table with room for 64 nodes, `kept 4096` one with room for 4,096 and 2,000 in it. `new`: the calls make their nodes.
 `there`: the nodes are there, and no side knows that they were asked for. `again`: the same calls a second time, where the Rust's cache
 answers at once; the kernel keeps none between calls (document 01: the memo is zeroed), and only the walk has its memo still.
-Lines 1d to 1h look for nodes that are there: wide ones, and nodes among others that were built to meet in the index; 1e to 1h do so by restricting a
+Lines 1d to 1i look for nodes that are there: wide ones, and nodes among others that were built to meet in the index; 1e to 1i do so by restricting a
 node at a switch that it does not test. Lines 9 are pairs of conditions that ask much of a memo, where not said otherwise in a table that is
 full. `alone`: the Rust would take hours.
 What stands before a round is restored outside the time: the kernel's table is copied back; the Rust's interner is built again with the same

@@ -368,8 +368,28 @@ fn itself(n: usize, _: &Node) -> Ask {
     Ask::Restrict(Arg::answer(n), SWITCH, true)
 }
 
+/// The same of all at once: nodes of a later variable than 1 below one condition, which is restricted. It has nodes of 64 edges over them, and one over
+/// these.
+fn below_one(name: &str, mut base: Vec<Node>) -> Work {
+    let over = |var, kids: Vec<u32>| {
+        let cuts = (1..kids.len() as i64).map(|n| n * 10).chain([0]).collect();
+        Node { var, kids, cuts }
+    };
+    let (mut parts, ids) = (vec![], 1..=base.len() as u32);
+    for part in ids.collect::<Vec<u32>>().chunks(64) {
+        base.push(over(1, part.iter().map(|n| n * 2).collect()));
+        parts.push(base.len() as u32 * 2);
+    }
+    base.push(over(0, parts));
+    let top = base.len() - 1;
+    let mut work = look_up(name, base, itself);
+    work.asks = vec![work.asks[top]];
+    work
+}
+
 /// 1: what a look-up costs: in a long chain of the index; of wide nodes, nearly each in a bucket of its own; and among nodes of one bucket and
-/// variable that differ in the number of edges, or agree up to the last edges, with hashes that differ or with one hash.
+/// variable that differ in the number of edges, or agree up to the last edges, with hashes that differ or with one hash. Last, what a call costs
+/// whose every look-up is slow: the worst that we could build.
 fn look_ups() -> Vec<Work> {
     let room = LOOKED_FOR.0;
     let chained = |seed, many, counts: &[usize]| {
@@ -381,6 +401,9 @@ fn look_ups() -> Vec<Work> {
         one_bucket(seed, many, room, &spread)
     };
     let counts: Vec<usize> = (2..=28).collect();
+    // the variable adds the same to each hash, as all have as many edges
+    let mut many = one_hash(4032, room, 3);
+    many.iter_mut().for_each(|x| x.var = 2);
     vec![
         look_up(
             "1d comparisons, one bucket",
@@ -403,6 +426,7 @@ fn look_ups() -> Vec<Work> {
             one_hash(250, room, 64),
             itself,
         ),
+        below_one("1i one hash, 4,032 below one condition", many),
     ]
 }
 

@@ -1,6 +1,6 @@
 -- A node of two edges. Assumes nothing.
 use mathlib.Core.Path.{_≡_, sym, _∙_, ap, ap₂, subst}
-use mathlib.Core.Bool.{Bool, true, false, cond, _&&_}
+use mathlib.Core.Bool.{cond, _&&_}
 use mathlib.Core.List.{List, [], _∷_}
 use mathlib.Core.Logic.{⊎-elim}
 use Prim.Native.Nat.{ℕ, suc, _+_, _-_, _≤_, _<_}
@@ -25,13 +25,13 @@ use Rattle.table.specs.Lent.{SoundLent}
 use Rattle.table.proofs.Laws.{lt-or-le, mix-at-equal}
 use Rattle.making.specs.declared.edges.Edge.{Edge}
 use Rattle.making.specs.declared.edges.Edges as built
-use Rattle.making.specs.Building.{Building, none, childIn, cutIn, piecesOf, zeroCut, hashIn, twoList, twoOf}
+use Rattle.making.specs.Building.{Building, none, childIn, cutIn, keyIn, piecesOf, zeroCut, hashIn, twoList, twoOf}
 use Rattle.making.specs.declared.chain.Front.{Front}
 use Rattle.making.specs.declared.chain.Spot.{Spot}
 use Rattle.making.specs.Seeking.{restAt, restIn, frontOf, Sought, Seeks, Finds}
 use Rattle.making.specs.Storing.{storedCut, EdgesWritten, EdgesPut}
 use Rattle.making.specs.Outcome.{Buildable, create-pair}
-use Rattle.making.proofs.Hashing.{key-is, key-none, hash-none, hash-next}
+use Rattle.making.proofs.Hashing.{key-is, key-small, key-none, hash-none, hash-next}
 use Rattle.making.proofs.Fronts.{frontIn, front-in, run-ends}
 use Rattle.making.proofs.Finding.{find-none, find-same}
 use Rattle.making.proofs.Stores.{written-none, written-next}
@@ -81,19 +81,18 @@ module _ (a b : Edge) where
   pub two-cut-small : (t : Table) (v : ℕ) → Buildable t v (twoOf a b) → a .cut < 8589934593
   two-cut-small t v k = omega (arith, two-cut, cut-small v (twoOf a b) (k .reduced) 0 (omega arith))
 
+  two-key : (v : ℕ) → cond (isRange v && ltb (0 + 1) 2) (a .cut) zeroCut ≡ keyIn v (twoOf a b) 0
+  two-key v = ap (λ (i : ℕ). cond (isRange v && ltb (0 + 1) 2) i zeroCut) (sym two-cut) ∙ key-is v 0 (twoOf a b)
+
   pub two-key-small : (v : ℕ) {k : ℕ} → a .cut < 8589934593 → k ≡ cond (isRange v && ltb (0 + 1) 2) (a .cut) zeroCut → k < 8589934593
-  two-key-small v l e = omega (arith, e, go (isRange v && ltb (0 + 1) 2))
-    where
-      go : (t : Bool) → cond t (a .cut) zeroCut < 8589934593
-      go true = l
-      go false = omega arith
+  two-key-small v l e = let d = e ∙ two-key v in omega (arith, d, key-small v 0 (twoOf a b) (λ j. omega (arith, two-cut)))
 
   -- Their hash,
   pub two-hash : (v : ℕ) → v < 4294967296 → {x y k p q : ℕ} → x ≡ under (sign (a .child .0)) (a .child .0) → k ≡ cond (isRange v && ltb (0 + 1) 2) (a .cut) zeroCut → p ≡ mix v x k → y ≡ under (sign (a .child .0)) (b .child .0) → q ≡ mix p y zeroCut → q ≡ hashIn v (sign (a .child .0)) (twoOf a b) 2
   two-hash v small c d e f g =
       let s = sign (a .child .0) in
       let es = twoOf a b in
-      g ∙ (mix-at-equal (e ∙ (mix-at-equal (sym (hash-none v s es small)) (c ∙ ap (under s) (sym two-lead)) (d ∙ (ap (λ (i : ℕ). cond (isRange v && ltb (0 + 1) 2) i zeroCut) (sym two-cut) ∙ key-is v 0 es)) ∙ sym (hash-next v s es 0))) (f ∙ ap (under s) (sym two-other)) (sym (key-none v 1 es (omega arith))) ∙ sym (hash-next v s es 1))
+      g ∙ (mix-at-equal (e ∙ (mix-at-equal (sym (hash-none v s es small)) (c ∙ ap (under s) (sym two-lead)) (d ∙ two-key v) ∙ sym (hash-next v s es 0))) (f ∙ ap (under s) (sym two-other)) (sym (key-none v 1 es (omega arith))) ∙ sym (hash-next v s es 1))
 
   -- their front,
   pub two-front : (v : ℕ) {f : Front} → frontOf f ≡ (v ∷ (2 ∷ (under (sign (a .child .0)) (a .child .0) ∷ (cond (isRange v && ltb (0 + 1) 2) (a .cut) zeroCut ∷ (under (sign (a .child .0)) (b .child .0) ∷ (cond (isRange v && ltb (1 + 1) 2) (b .cut) zeroCut ∷ [])))))) → frontOf f ≡ frontIn v (sign (a .child .0)) (twoOf a b)
@@ -131,6 +130,9 @@ pub array-as-two : (es : built.Edges) → es .len ≡ 2 → piecesOf (twoOf (get
 array-as-two es e = two-pieces (getD (es .list) 0 none) (getD (es .list) 1 none) ∙ sym (array-of-two es e)
 
 -- A high edge and a low one of a boolean variable, which has two positions, 0 for yes and 1 for no.
+abbrev pub pairOf : NodeId → NodeId → built.Edges
+pairOf high low = twoOf (record { cut = 1; child = high; spare = 0 }) (record { cut = 0; child = low; spare = 0 })
+
 module _ (high low : NodeId) where
   abbrev sides : Pieces ℕ
   sides = cut (high .0) 1 (last (low .0))
@@ -141,11 +143,11 @@ module _ (high low : NodeId) where
   pair-merged e = join-other (high .0) 1 (last (low .0)) e
 
   -- Over two later children that differ a node can be made,
-  pub pair-buildable : (t : Table) {v : ℕ} → firstBoolean ≤ v → v < variables → Child t (suc v) (high .0) → Child t (suc v) (low .0) → (high .0 ≡ low .0 → ⊥) → Buildable t v (twoOf (record { cut = 1; child = high; spare = 0 }) (record { cut = 0; child = low; spare = 0 }))
+  pub pair-buildable : (t : Table) {v : ℕ} → firstBoolean ≤ v → v < variables → Child t (suc v) (high .0) → Child t (suc v) (low .0) → (high .0 ≡ low .0 → ⊥) → Buildable t v (pairOf high low)
   pair-buildable t {v} g known p q e = two-buildable _ _ t (pair-merged e) known (reduced-merge 0 (topOf v) sides (rw (le-ltb v firstBoolean g) (omega arith, omega arith, omega arith))) (each-merge (Child t (suc v)) sides (p, q))
 
   -- which is the node of the two,
-  pub pair-made : (t : Table) (v : ℕ) → (high .0 ≡ low .0 → ⊥) → settle t v (piecesOf (twoOf (record { cut = 1; child = high; spare = 0 }) (record { cut = 0; child = low; spare = 0 }))) ≡ create-pair t v (high .0) (low .0)
+  pub pair-made : (t : Table) (v : ℕ) → (high .0 ≡ low .0 → ⊥) → settle t v (piecesOf (pairOf high low)) ≡ create-pair t v (high .0) (low .0)
   pair-made t v e = ap (settle t v) (two-pieces _ _ ∙ sym (pair-merged e))
 
   -- and where they agree the child stands for it.

@@ -2,14 +2,13 @@
 use mathlib.Core.Path.{refl}
 use native.Mathlib.Omega.{arith}
 use borrow.Author.Needs.{needs}
-use Rattle.making.specs.Building.{twoOf}
-use Rattle.making.proofs.Two.{pair-buildable, pair-made, pair-dropped}
+use Rattle.making.proofs.Two.{pairOf, pair-buildable, pair-made, pair-dropped}
 use Rattle.making.proofs.Creating.{kept}
 use Rattle.making.proofs.nodes.create_pair.Statement.{statement}
 use Rattle.making.proofs.nodes.create_pair.Tie as tie
 
 returns : tie.Need-returns
-returns c = kept (c .before .before .before .before .before .before .pre .0) (c .before .before .before .before .before .before .args .v) (twoOf (record { cut = 1; child = (c .before .before .before .before .before .before .args .high); spare = 0 }) (record { cut = 0; child = (c .before .before .before .before .before .before .args .low); spare = 0 })) (refl, refl, refl) (pair-dropped (c .before .before .before .before .before .before .args .high) (c .before .before .before .before .before .before .args .low) _ (c .before .before .before .before .before .before .args .v) (omega arith))
+returns c = kept (c .before .before .before .before .before .before .pre .0) (c .before .before .before .before .before .before .args .v) (pairOf (c .before .before .before .before .before .before .args .high) (c .before .before .before .before .before .before .args .low)) (refl, refl, refl) (pair-dropped (c .before .before .before .before .before .before .args .high) (c .before .before .before .before .before .before .args .low) _ (c .before .before .before .before .before .before .args .v) (omega arith))
 
 settle-two-requires : tie.Need-settle-two-requires
 settle-two-requires c κs = ((c .before .before .before .before .before .before .before .before .before .before .pre .0), pair-buildable (c .before .before .before .before .before .before .before .before .before .before .args .high) (c .before .before .before .before .before .before .before .before .before .before .args .low) _ (c .before .before .before .before .before .before .before .before .before .before .pre .1) (c .before .before .before .before .before .before .before .before .before .before .pre .2) (c .before .before .before .before .before .before .before .before .before .before .pre .3) (c .before .before .before .before .before .before .before .before .before .before .pre .4) (c .before .before .before .before .if1 .left))
