@@ -1,5 +1,8 @@
 // The edges that narrowing and widening put at the chosen range variable. Document 01, steps 8 and 9: the edge part of
 // `simplify_python_versions` and `complexify_python_versions` of the source.
+
+#![tactic(auto)]
+
 ghost use Rattle.std.specs.Prelude.{◌≡◌, List, ℕ, ◌≤◌, ◌<◌, min, length};
 ghost use Rattle.ranges.specs.Line.{top};
 ghost use Rattle.diagram.specs.Shape.{Rising};

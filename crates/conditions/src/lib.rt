@@ -1,5 +1,8 @@
 // Conditions on one variable. Document 01, step 3; `from_range`, `from_string` and `from_bool` of the source. Each makes at most one node,
 // over the terminals.
+
+#![tactic(auto)]
+
 ghost use Rattle.std.specs.Prelude.{◌≡◌, ◌-◌, ◌≤◌, ◌<◌};
 ghost use Rattle.ranges.specs.Line.{top};
 ghost use Rattle.diagram.specs.Table.{first_boolean, variables, top_of};

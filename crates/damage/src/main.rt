@@ -1,5 +1,8 @@
 // Damages sound tables one word at a time and shows what the check tells of each; then lengths, refusals, readings and a fresh table.
 // What it must write is stated apart from the kernel, by expected.py from document 01.
+
+#![tactic(auto)]
+
 mod fresh;
 mod laid;
 mod lengths;

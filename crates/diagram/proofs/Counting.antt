@@ -61,10 +61,12 @@ mem_down (suc n) x h l = go (ℕ_discrete x (suc n)) (λ k. mem_down n x h k)
     go (no e) i = Memᴰ.tail (i (omega arith))
 
 pub down_mem : (n x : ℕ) → Memᴰ x (down n) → (0 < x) × (x ≤ n)
+down_mem zero x x3 = elim x3 [ ]
 down_mem (suc n) x (Memᴰ.head e) = (omega arith, omega arith)
 down_mem (suc n) x (Memᴰ.tail m) = let h = down_mem n x m in (h.0, omega arith)
 
 pub mem_filter : (f : ℕ → Bool) (xs : List ℕ) (x : ℕ) → Memᴰ x xs → f x ≡ true → Memᴰ x (filter f xs)
+mem_filter f [] x x4 h = elim x4 [ ]
 mem_filter f (y ∷ ys) x (Memᴰ.head e) h = rw (← e, h) (Memᴰ.head refl)
 mem_filter f (y ∷ ys) x (Memᴰ.tail m) h = go (f y) (mem_filter f ys x m h)
   where

@@ -66,6 +66,7 @@ path_trans here y = y
 path_trans (via x h m p) y = via x h m (path_trans p y)
 
 any_mem : (f : Run → Bool) (xs : List Run) (x : Run) → Memᴰ x xs → f x ≡ true → any f xs ≡ true
+any_mem f [] x x4 h = elim x4 [ ]
 any_mem f (y ∷ ys) x (Memᴰ.head e) h = rw (← e, h)
 any_mem f (y ∷ ys) x (Memᴰ.tail m) h = rw (any_mem f ys x m h) (or-true (f y))
 

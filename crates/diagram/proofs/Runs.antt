@@ -38,6 +38,7 @@ pub record Held (xs : List Run) (p : ℕ) : Type 0 where
   pub holding : holds run p ≡ true
 
 none_holds : (xs : List Run) (p : ℕ) → holders xs p ≡ 0 → (x : Run) → Memᴰ x xs → holds x p ≡ true → ⊥
+none_holds [] p n x m h = elim m [ ]
 none_holds (y ∷ ys) p n x m h = go (holds y p) refl n m (λ k i. none_holds ys p k x i h)
   where
     go : (b : Bool) → holds y p ≡ b → cond b (suc (holders ys p)) (holders ys p) ≡ 0 → Memᴰ x (y ∷ ys) → (holders ys p ≡ 0 → Memᴰ x ys → ⊥) → ⊥
@@ -93,6 +94,7 @@ pub record Piece (b t : ℕ) (e : Pieces ℕ) (x : Run) : Type 0 where
   pub child_is : select e x.from ≡ x.child
 
 pub run_piece : (b t : ℕ) (e : Pieces ℕ) → Rising b t e → (x : Run) → Memᴰ x (runs b t e) → Piece b t e x
+run_piece b t (last c) r x (Memᴰ.tail m) = elim m [ ]
 run_piece b t (last c) r x (Memᴰ.head q) = rw q (record { low = omega arith; rising = r; high = omega arith; child_is = refl })
 run_piece b t (cut c k e) r x (Memᴰ.head q) = rw q (record { low = omega arith; rising = omega arith; high = omega arith; child_is = select_left c k e b r.0 })
 run_piece b t (cut c k e) r x (Memᴰ.tail m) =
@@ -101,6 +103,7 @@ run_piece b t (cut c k e) r x (Memᴰ.tail m) =
     record { low = omega arith; rising = i.rising; high = i.high; child_is = select_right c k e x.from l ∙ i.child_is }
 
 pub run_each : (P : ℕ → Type 0) (b t : ℕ) (e : Pieces ℕ) → Each P e → (x : Run) → Memᴰ x (runs b t e) → P x.child
+run_each P b t (last c) h x (Memᴰ.tail m) = elim m [ ]
 run_each P b t (last c) h x (Memᴰ.head q) = rw q h
 run_each P b t (cut c k e) h x (Memᴰ.head q) = rw q h.0
 run_each P b t (cut c k e) h x (Memᴰ.tail m) = run_each P k t e h.1 x m

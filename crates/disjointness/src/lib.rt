@@ -1,5 +1,8 @@
 // Whether two conditions exclude each other. Document 01, step 6: `is_disjoint` and `is_disjoint_ranges` of the source. No node is made. Pairs
 // that were found to exclude each other can be noted in a memo: without it the work may double with each variable.
+
+#![tactic(auto)]
+
 ghost use Rattle.std.specs.Prelude.{◌≡◌, true, false};
 ghost use Rattle.ids.specs.Id.{sign, KnownTo};
 ghost use Rattle.diagram.specs.Table.{first_boolean};
@@ -78,7 +81,7 @@ fn both_even(x: NodeId, y: NodeId) -> bool
 }
 
 // What a walk found. A no beside a rest of 0 is no answer: the walk may have given up.
-#[derive(Drop)]
+#[derive(Clone, Copy)]
 pub struct Tried {
     pub yes: bool,
     pub rest: usize,

@@ -1,14 +1,17 @@
 // Ids: `NodeId` of the source, with the range test that its `index` lacks.
+
+#![tactic(auto)]
+
 ghost use Rattle.std.specs.Prelude.{◌≡◌, cond, ◌-◌, ◌^◌, ◌<◌, eqb, leb};
 ghost use Rattle.ids.specs.Id.{TRUE, FALSE, id_of, sign, ref, flip, under};
 ghost use Rattle.ids.specs.Index.{index_of};
 
 // A reference to a node, or to a terminal: a number with a type of its own. The lowest bit is the complement.
-#[derive(Drop)]
+#[derive(Clone, Copy)]
 pub struct NodeId(pub u32);
 
 // What an id names in a table that uses some number of nodes.
-#[derive(Drop)]
+#[derive(Clone, Copy)]
 pub enum Index {
     // TRUE or FALSE.
     Terminal,

@@ -15,7 +15,7 @@ use table::told::{DONE, UNKNOWN_ID, WRONG_ROOM};
 use table::words::wide;
 
 // A number, and beside 0 how much of the table is used.
-#[derive(Drop)]
+#[derive(Clone, Copy)]
 pub struct Admission {
     pub number: u32,
     pub used: Used,

@@ -16,7 +16,7 @@ pub const WRONG_VARIABLE: u32 = 4;
 pub const NO_ROOM: u32 = 6;
 
 // A number, and the id, which is FALSE beside any refusal.
-#[derive(Drop)]
+#[derive(Clone, Copy)]
 pub struct Answer {
     pub number: u32,
     pub id: NodeId,

@@ -19,7 +19,7 @@ use table::words::{child_at, count_of, cut_position_at, first_of, var_of, wide, 
 
 // Where a node is: one more than its number, or 0. Where it is not, the nodes of its bucket that it goes between, each as one more than its
 // number, or 0 where there is none.
-#[derive(Drop)]
+#[derive(Clone, Copy)]
 pub struct Spot {
     pub at: usize,
     pub before: usize,
@@ -27,7 +27,7 @@ pub struct Spot {
 }
 
 // What a node is ordered by after its hash, up to its second edge, as it is stored. Of a boolean node that is all.
-#[derive(Drop)]
+#[derive(Clone, Copy)]
 pub struct Front {
     pub variable: usize,
     pub count: usize,

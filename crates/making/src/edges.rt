@@ -14,7 +14,7 @@ use table::words::wide;
 
 // An edge goes up to its cut, the first position on its right. `spare` is 0 and nothing looks at it: it fills the struct to 16 bytes, and
 // an array without holes is set and copied as one block.
-#[derive(Drop)]
+#[derive(Clone, Copy)]
 pub struct Edge {
     pub cut: usize,
     pub child: NodeId,

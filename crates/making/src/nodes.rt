@@ -19,14 +19,14 @@ use table::index::scaled;
 use table::limits::RECORD_WORDS;
 
 // How much of a lent table is used. Its rooms are the lengths of its slices.
-#[derive(Drop)]
+#[derive(Clone, Copy)]
 pub struct Used {
     pub nodes: usize,
     pub edges: usize,
 }
 
 // What making gives: an id, or no room; and how much is used now.
-#[derive(Drop)]
+#[derive(Clone, Copy)]
 pub struct Made {
     pub ok: bool,
     pub id: NodeId,

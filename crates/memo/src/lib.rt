@@ -3,6 +3,9 @@
 // Eight words are a set, and a pair is looked for in one set. Word 0 is the head: how many sets are in use, and how many answers were
 // written. An operation begins with few sets and takes more as they fill, so that a short one touches little; the words behind the sets in
 // use are zero. Which set, and which word of it, matters for time alone: an entry names its pair in full.
+
+#![tactic(auto)]
+
 ghost use Rattle.std.specs.Prelude.{◌≡◌, true, ◌+◌, ◌*◌, ◌/◌, ◌≤◌, ◌<◌, length, replicate};
 ghost use Rattle.diagram.specs.Table.{variables};
 ghost use Rattle.table.specs.Layout.{most_nodes};
@@ -21,14 +24,14 @@ const PAIRS: u64 = 68719476736;
 const FIRST_SETS: usize = 32;
 
 // An id, if it is settled.
-#[derive(Drop)]
+#[derive(Clone, Copy)]
 pub struct Settled {
     pub done: bool,
     pub id: NodeId,
 }
 
 // Two ids, the smaller one first.
-#[derive(Drop)]
+#[derive(Clone, Copy)]
 pub struct Pair {
     pub first: NodeId,
     pub second: NodeId,

@@ -1,5 +1,8 @@
 // Reads a set of rules from standard input, and tells which of them can both hold in one delivery. README.md beside src/ has the language.
 // The last line is the verdict, one of three; `run` at the root makes the exit status of it, since a Rattle program has none.
+
+#![tactic(auto)]
+
 mod characters;
 mod faults;
 mod keys;

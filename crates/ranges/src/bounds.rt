@@ -7,7 +7,7 @@ ghost use Rattle.ranges.specs.declared.bounds.Bound.TheVariants.{Open};
 use super::places::{TOP, position_of_key};
 
 // One end of a range: open, with a key, or up to a key but without it.
-#[derive(Drop)]
+#[derive(Clone, Copy)]
 pub enum Bound {
     Open,
     Includes(i32),
@@ -15,7 +15,7 @@ pub enum Bound {
 }
 
 // A comparison with a key: = != < <= > >=.
-#[derive(Drop)]
+#[derive(Clone, Copy)]
 pub enum Comparison {
     Equal,
     NotEqual,

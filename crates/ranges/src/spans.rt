@@ -7,21 +7,21 @@ use super::bounds::{Bound, Comparison, first_of, last_of};
 use super::places::TOP;
 
 // The positions from the first to the last, both included; none where the first is above the last.
-#[derive(Drop)]
+#[derive(Clone, Copy)]
 pub struct Range {
     pub first: u64,
     pub last: u64,
 }
 
 // Two ranges, one to the left of the other; each may be empty.
-#[derive(Drop)]
+#[derive(Clone, Copy)]
 pub struct Parts {
     pub left: Range,
     pub right: Range,
 }
 
 // Where a comparison holds: inside a range, or outside it.
-#[derive(Drop)]
+#[derive(Clone, Copy)]
 pub struct Compared {
     pub range: Range,
     pub outside: bool,

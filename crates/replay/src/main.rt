@@ -1,5 +1,8 @@
 // Reads operations from standard input, one a line, and writes what the kernel's own calls answer to each. Recorded answers and a judge in
 // Rust are held against it (docs/TESTING.md). Whatever it reads, it goes on to the end of the input.
+
+#![tactic(auto)]
+
 mod answering;
 mod asking;
 mod lending;

@@ -3,6 +3,9 @@
 // So its contract is that call's own, with the number returned and the words written in the place of the struct, and it has no condition on
 // what is lent. What no contract here can say is left to C: that each pointer and length is right, and that no memory is lent twice.
 // `numbers` is public for the benchmark alone (`bench/calls.txt`), which takes bounds as C gives them.
+
+#![tactic(auto)]
+
 mod conditions;
 pub mod numbers;
 mod operations;

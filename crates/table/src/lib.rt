@@ -1,4 +1,7 @@
 // Lent tables: their words, the check whether they are sound, and the calls that make no node.
+
+#![tactic(auto)]
+
 pub mod calls;
 pub mod fresh;
 pub mod index;

@@ -86,7 +86,7 @@ pub fn cuts_blank(cuts: &[i64], e: usize) -> bool
 }
 
 // Whether edges keep the rules, and then their hash.
-#[derive(Drop)]
+#[derive(Clone, Copy)]
 pub struct Seen {
     pub ok: bool,
     pub hash: usize,

@@ -13,7 +13,7 @@ use super::rules::rules_hold;
 use super::words::{blanks_from, count_of, names, one_for, word, zeros_between, zeros_from};
 
 // The check's answer, with the used counts of a sound table.
-#[derive(Drop)]
+#[derive(Clone, Copy)]
 pub struct Judged {
     pub sound: bool,
     pub nodes: usize,

@@ -16,7 +16,7 @@ pub const UNKNOWN_ID: u32 = 3;
 pub const BEYOND_PLACES: u32 = 5;
 
 // What a check tells: its number, and the used counts beside 0.
-#[derive(Drop)]
+#[derive(Clone, Copy)]
 pub struct Checked {
     pub number: u32,
     pub nodes: usize,
@@ -24,7 +24,7 @@ pub struct Checked {
 }
 
 // What a yes-or-no call tells: its number, and the answer, which is no beside any refusal.
-#[derive(Drop)]
+#[derive(Clone, Copy)]
 pub struct Told {
     pub number: u32,
     pub yes: bool,

@@ -1,5 +1,8 @@
 // The edges of an id at a variable, read where they stand in the table: no operation copies a node to look at it. `NodeId::negate` of the
 // source is at work here, "Forgetting to negate a child when its parent id is complemented" being one of document 01's faults.
+
+#![tactic(auto)]
+
 ghost use Rattle.std.specs.Prelude.{◌≡◌, ◌&&◌, ◌||◌, ◌+◌, ◌-◌, ◌*◌, ◌≤◌, ◌<◌, min, ltb, eqb, length};
 ghost use Rattle.ids.specs.Id.{FALSE, ref, flip};
 ghost use Rattle.views.specs.Seeing.{Inside, Sees, beyond, child_seen, cut_seen};
@@ -9,7 +12,7 @@ use ids::NodeId;
 use table::words::{child_at, count_of, cut_position_at, first_of, var_of, wide};
 
 // Edges `first` to `first + count - 1` of the table, each child negated if the id is complemented; with count 1, the id itself everywhere.
-#[derive(Drop)]
+#[derive(Clone, Copy)]
 pub struct View {
     pub first: usize,
     pub count: usize,

@@ -6,7 +6,7 @@ use table::limits::MOST_EDGES;
 use views::END;
 
 // How the merge goes on after one overlap: the slot and the cut of its edge, how far each side goes, and whether there is more.
-#[derive(Drop)]
+#[derive(Clone, Copy)]
 pub struct Step {
     pub ok: bool,
     pub more: bool,
