@@ -1,0 +1,11 @@
+use mathlib.Core.Path.{◌≡◌, refl}
+use Prim.Native.Nat.{◌-◌, ◌≤◌}
+use native.Mathlib.Omega.{arith}
+use lib.ListN.{length, length-set}
+use lib.IntN.{pos}
+use Rattle.table.proofs.Zeroed.{Filled, filled_next, filled_all}
+use Rattle.std.proofs.Common.{rules}
+use Rattle.table.proofs.fresh.zero_cuts.Goals as goal
+
+pub returns : goal.returns
+returns c = filled_all (pos 0) c.loop-i.cuts _ c.loop-i.invariant.1 (λ j l. c.loop-i.invariant.2 j (omega (arith, c.loop-i.invariant.1)))

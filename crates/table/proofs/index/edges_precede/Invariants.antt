@@ -1,0 +1,16 @@
+use Prim.Native.Nat.{◌≤◌, ◌-◌}
+use mathlib.Core.Path.{◌≡◌, sym, ◌∙◌}
+use native.Mathlib.Omega.{arith}
+use Rattle.chains.specs.Lexical.{less}
+use Rattle.table.specs.Checking.{run_at}
+use Rattle.table.proofs.Laws as laws
+use Rattle.table.proofs.Ordered as ordered
+use Rattle.std.proofs.Common.{rules}
+use Rattle.table.proofs.index.edges_precede.Given as goal
+
+-- `index::edges_precede` meets its contract. Assumes nothing.
+abbrev pub invariant-loop-i : goal.invariant-loop-i
+invariant-loop-i l = (l.i ≤ l.count) × (less (run_at l.children l.cuts l.a 0 l.count) (run_at l.children l.cuts l.b 0 l.count) ≡ less (run_at l.children l.cuts l.a l.i (l.count - l.i)) (run_at l.children l.cuts l.b l.i (l.count - l.i)))
+
+abbrev pub decreases-loop-i : goal.decreases-loop-i
+decreases-loop-i l = l.count - l.i

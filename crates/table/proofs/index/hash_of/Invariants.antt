@@ -1,0 +1,14 @@
+use Prim.Native.Nat.{◌<◌, ◌≤◌, ◌-◌}
+use mathlib.Core.Path.{◌≡◌, ap, sym, ◌∙◌}
+use native.Mathlib.Omega.{arith}
+use Rattle.table.specs.Indexed.{hash_to}
+use Rattle.table.proofs.Laws as laws
+use Rattle.std.proofs.Common.{rules}
+use Rattle.table.proofs.index.hash_of.Given as goal
+
+-- `index::hash_of` meets its contract. Assumes nothing.
+abbrev pub invariant-loop-j : goal.invariant-loop-j
+invariant-loop-j l = (l.j ≤ l.count) × (l.h < 4294967296) × (l.h ≡ hash_to l.children l.cuts l.v l.e l.j)
+
+abbrev pub decreases-loop-j : goal.decreases-loop-j
+decreases-loop-j l = l.count - l.j

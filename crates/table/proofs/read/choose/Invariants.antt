@@ -1,0 +1,16 @@
+use Prim.Native.Nat.{◌<◌, ◌≤◌, ◌+◌, ◌-◌}
+use mathlib.Core.Path.{◌≡◌, refl, sym, ◌∙◌}
+use native.Mathlib.Omega.{arith}
+use Rattle.table.specs.Layout.{cut_at, cut_position}
+use Rattle.table.specs.Held.{edges_from}
+use Rattle.diagram.specs.Pieces.{select}
+use Rattle.table.proofs.Scan.{rest, rest_none, rest_stop, rest_pass, rest_end}
+use Rattle.std.proofs.Common.{rules}
+use Rattle.table.proofs.read.choose.Given as goal
+
+-- `read::choose` meets its contract. Assumes nothing.
+abbrev pub invariant-loop-j : goal.invariant-loop-j
+invariant-loop-j l = (l.end ≡ l.count - 1) × (l.j ≤ l.end) × (select (edges_from l.children l.cuts l.e l.end) l.p ≡ rest l.children l.cuts l.p l.e l.end l.j)
+
+abbrev pub decreases-loop-j : goal.decreases-loop-j
+decreases-loop-j l = l.end - l.j

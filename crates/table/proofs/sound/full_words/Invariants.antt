@@ -1,0 +1,15 @@
+use Prim.Native.Nat.{◌≤◌, ◌-◌}
+use mathlib.Core.Path.{◌≡◌, ap, sym, ◌∙◌}
+use native.Mathlib.Omega.{arith}
+use Rattle.chains.specs.Local.{some, tally}
+use Rattle.chains.specs.Row.{words}
+use Rattle.table.proofs.Laws as laws
+use Rattle.std.proofs.Common.{rules}
+use Rattle.table.proofs.sound.full_words.Given as goal
+
+-- `sound::full_words` meets its contract. Assumes nothing.
+abbrev pub invariant-loop-i : goal.invariant-loop-i
+invariant-loop-i l = (l.i ≤ l.n) × (l.full ≤ l.i) × (l.full ≡ tally (words l.index) l.i)
+
+abbrev pub decreases-loop-i : goal.decreases-loop-i
+decreases-loop-i l = l.n - l.i
