@@ -20,7 +20,7 @@ use table::limits::MOST_EDGES;
 use views::{END, View, child, cut};
 
 // Edges, or that there would be a 65th.
-#[derive(Drop)]
+#[derive(Clone, Copy)]
 pub struct Clip {
     pub ok: bool,
     pub edges: Edges,

@@ -21,7 +21,7 @@ pub struct Edge {
     pub spare: u32,
 }
 
-#[derive(Drop)]
+#[derive(Clone, Copy)]
 pub struct Edges {
     pub list: [Edge; 64],
     pub len: usize,
