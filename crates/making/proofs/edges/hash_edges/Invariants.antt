@@ -1,0 +1,16 @@
+use Prim.Native.Nat.{◌<◌, ◌≤◌, ◌-◌}
+use mathlib.Core.Path.{◌≡◌, ap, sym, ◌∙◌}
+use native.Mathlib.Omega.{arith}
+use Rattle.ids.specs.Id.{sign}
+use Rattle.table.proofs.Laws.{mix_at_equal}
+use Rattle.making.specs.Building.{hash_in}
+use Rattle.making.proofs.Hashing.{key_is, key_small, hash_none, hash_next}
+use Rattle.std.proofs.Common.{rules}
+use Rattle.making.proofs.edges.hash_edges.Given as goal
+
+-- `edges::hash_edges` meets its contract. Assumes nothing.
+abbrev pub invariant-loop-j : goal.invariant-loop-j
+invariant-loop-j l = (l.j ≤ l.n) × (l.h < 4294967296) × (l.h ≡ hash_in l.v (sign l.lead.0) l.es l.j)
+
+abbrev pub decreases-loop-j : goal.decreases-loop-j
+decreases-loop-j l = l.n - l.j

@@ -1,0 +1,13 @@
+use mathlib.Core.Path.{refl}
+use Prim.Native.Nat.{◌-◌}
+use native.Mathlib.Omega.{arith}
+use Rattle.making.proofs.Slots.{slot_most}
+use Rattle.making.proofs.Merged.{Merging, merging_none, merging_next, merging_done}
+use Rattle.std.proofs.Common.{rules}
+use Rattle.making.proofs.edges.merged.Goals as goal
+
+pub loop-j-init : goal.loop-j-init
+loop-j-init c = merging_none c.requires _
+
+pub loop-j-preserved : goal.loop-j-preserved
+loop-j-preserved c = merging_next c.requires c.loop-j.invariant (omega arith) _ refl refl c.slot_for-n.ensures

@@ -1,0 +1,8 @@
+use Rattle.making.proofs.Creating.{merged_builds}
+use Rattle.std.proofs.Common.{rules}
+use Rattle.making.proofs.nodes.create_node.Goals as goal
+
+-- `nodes::create_node` meets its contract: the edges merged, and settled. Assumes nothing.
+pub settle-requires : goal.settle-requires
+settle-requires c = let pre· = c.requires in
+    (pre·.0, merged_builds pre·.1 c.merged.ensures)

@@ -1,0 +1,18 @@
+use mathlib.Core.Path.{◌≡◌, refl, ◌∙◌}
+use Prim.Native.Nat.{◌-◌, ◌≤◌}
+use native.Mathlib.Omega.{arith}
+use lib.ListN.{length, length-set}
+use mir.ValLaws.{to_z-of_z}
+use Rattle.ids.specs.Id.{sign, under}
+use Rattle.making.specs.Building.{child_in, cut_in}
+use Rattle.making.specs.Storing.{EdgesWritten, stored_cut}
+use Rattle.making.proofs.Stores.{written_none, written_next}
+use Rattle.std.proofs.Common.{rules}
+use Rattle.making.proofs.nodes.put_edges.Given as goal
+
+-- `nodes::put_edges` meets its contract: the edges passed are stored. Assumes nothing.
+abbrev pub invariant-loop-j : goal.invariant-loop-j
+invariant-loop-j l = (l.j ≤ l.count) × (length l.children ≡ length l.initial.children) × (length l.cuts ≡ length l.initial.cuts) × EdgesWritten l.initial.children l.initial.cuts l.e l.j (λ i. under (sign l.lead.0) (child_in l.es i)) (λ i. stored_cut l.v i l.es.len (cut_in l.es i)) l.children l.cuts
+
+abbrev pub decreases-loop-j : goal.decreases-loop-j
+decreases-loop-j l = l.count - l.j
