@@ -19,7 +19,7 @@ use walks::steps::{advance, edge_of};
 
 // Conjunction of two ids: what they alone decide, what the memo recalls, or the merge of their edges at the first variable of the two.
 // `ahead` is more than the variables that are still ahead.
-#[cycle(apply_apply_ranges_conjoin)]
+#[cycle(conjoin)]
 pub fn conjoin(
     nodes: &mut [u32],
     children: &mut [u32],
@@ -64,7 +64,7 @@ pub fn conjoin(
 // The node of variable v over both sides: "booleans high then low where both sides test the variable, low then high where only one does".
 // Booleans are walked here and not in a function of their own: then the compiler finds that `conjoin`, of which it makes this a part, calls
 // itself, and leaves the array of edges in the frame of `create_pair`, where there is one of it and not one for each variable.
-#[cycle(apply_apply_ranges_conjoin)]
+#[cycle(conjoin)]
 fn apply(
     nodes: &mut [u32],
     children: &mut [u32],
@@ -120,7 +120,7 @@ fn first_unless(back: bool, one: NodeId, two: NodeId) -> NodeId
 }
 
 // "Ranges left to right": one conjunction for each overlap, and its edge merged with the last one where their children agree.
-#[cycle(apply_apply_ranges_conjoin)]
+#[cycle(conjoin)]
 fn apply_ranges(
     nodes: &mut [u32],
     children: &mut [u32],

@@ -90,7 +90,7 @@ pub struct Tried {
 // The walk. "FALSE is disjoint with everything, itself included", so the test for opposed ids comes before the one for equal ids. `ahead` is
 // more than the variables that are still ahead, and so more than the calls can nest. With less than a set of words to note in, nothing is
 // noted, and the walk gives up after `rest` pairs. With a set or more it goes on to the end, if `rest` is not 0.
-#[cycle(booleans_disjoint_ids_disjoint_nodes_disjoint_ranges_disjoint_sides_disjoint)]
+#[cycle(disjoint)]
 fn ids_disjoint(
     nodes: &[u32],
     children: &[u32],
@@ -121,7 +121,7 @@ fn ids_disjoint(
 }
 
 // Two nodes that the opening tests leave: their edges, at the first variable of the two.
-#[cycle(booleans_disjoint_ids_disjoint_nodes_disjoint_ranges_disjoint_sides_disjoint)]
+#[cycle(disjoint)]
 fn nodes_disjoint(
     nodes: &[u32],
     children: &[u32],
@@ -162,7 +162,7 @@ fn nodes_disjoint(
 }
 
 // At variable v: ranges or booleans.
-#[cycle(booleans_disjoint_ids_disjoint_nodes_disjoint_ranges_disjoint_sides_disjoint)]
+#[cycle(disjoint)]
 fn sides_disjoint(
     nodes: &[u32],
     children: &[u32],
@@ -185,7 +185,7 @@ fn sides_disjoint(
 
 // At a range variable: "the answer is no at the first overlapping pair of edges whose children aren't disjoint". The right edges that
 // end before a left one aren't looked at again for the next.
-#[cycle(booleans_disjoint_ids_disjoint_nodes_disjoint_ranges_disjoint_sides_disjoint)]
+#[cycle(disjoint)]
 fn ranges_disjoint(
     nodes: &[u32],
     children: &[u32],
@@ -233,7 +233,7 @@ fn ranges_disjoint(
 }
 
 // At a boolean variable: the high children, and then the low ones. Of an id that doesn't test it both are the id itself.
-#[cycle(booleans_disjoint_ids_disjoint_nodes_disjoint_ranges_disjoint_sides_disjoint)]
+#[cycle(disjoint)]
 fn booleans_disjoint(
     nodes: &[u32],
     children: &[u32],

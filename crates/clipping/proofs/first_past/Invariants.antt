@@ -1,0 +1,12 @@
+use Prim.Native.Nat.{◌-◌}
+use native.Mathlib.Omega.{arith}
+use Rattle.clipping.proofs.Passing.{Passing, pass_none, pass_next, pass_done}
+use Rattle.std.proofs.Common.{rules}
+use Rattle.clipping.proofs.first_past.Given as goal
+
+-- `first_past` meets its contract. Assumes nothing.
+abbrev pub invariant-loop-a : goal.invariant-loop-a
+invariant-loop-a l = Passing l.cuts l.a l.lo l.i
+
+abbrev pub decreases-loop-a : goal.decreases-loop-a
+decreases-loop-a l = l.a.count - l.i

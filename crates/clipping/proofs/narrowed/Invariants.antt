@@ -1,0 +1,15 @@
+use mathlib.Core.Path.{sym, ◌∙◌, ap}
+use Prim.Native.Nat.{◌-◌}
+use native.Mathlib.Omega.{arith}
+use Rattle.algebra.specs.Changing.{cut_above}
+use Rattle.views.proofs.Sights.{inside_wider}
+use Rattle.clipping.proofs.Copying.{Copying, copy_none, slot_free, copy_next, copied}
+use Rattle.std.proofs.Common.{rules}
+use Rattle.clipping.proofs.narrowed.Given as goal
+
+-- `narrowed` meets its contract. Assumes nothing.
+abbrev pub invariant-loop-more : goal.invariant-loop-more
+invariant-loop-more l = Copying l.children l.cuts l.a l.high l.initial.i l.out l.i l.len l.more
+
+abbrev pub decreases-loop-more : goal.decreases-loop-more
+decreases-loop-more l = l.a.count - l.i

@@ -1,0 +1,8 @@
+use native.Mathlib.Omega.{arith}
+use Rattle.disjointness.proofs.Whole.{zeroed_asked, noting_answer}
+use Rattle.std.proofs.Common.{rules}
+use Rattle.disjointness.proofs.noted_disjoint.Goals as goal
+
+-- `noted_disjoint` meets its contract: its walk goes to the end. Assumes nothing.
+pub ids_disjoint-t-requires : goal.ids_disjoint-t-requires
+ids_disjoint-t-requires c = zeroed_asked 512 (omega arith) c.requires.0 c.requires.1 c.requires.2
