@@ -10,7 +10,7 @@ use native.Mathlib.Decide.{dec_lt}
 use lib.ListN.{length}
 use Rattle.ids.specs.Id.{ref}
 use Rattle.diagram.specs.Shape.{count}
-use Rattle.diagram.specs.Table.{Node, Table, at, value, Continues, same}
+use Rattle.diagram.specs.Table.{Node, Table, value, Continues, same}
 use Rattle.diagram.specs.Sound.{Known, Sound}
 use Rattle.diagram.specs.Reading.{Reading, positions, says}
 use Rattle.diagram.specs.Room.{width, edge_total, Fits}

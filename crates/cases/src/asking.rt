@@ -11,6 +11,7 @@ use kernel::changes_calls::{narrow, restrict, widen};
 use kernel::conditions_calls::{from_bool, from_comparison, from_range};
 use kernel::disjointness_calls::is_disjoint;
 use kernel::joins_calls::{and, or};
+use std::io;
 use table::calls::evaluate;
 use table::told::{DONE, Told};
 
@@ -121,28 +122,30 @@ fn memo_right(memo: &[u64], number: u32) -> bool {
     all(memo, SOILED)
 }
 
-fn show_memo(number: u32) {
+fn show_memo(rt: &impl Print, number: u32) -> io::Result<()> {
     if is_zeroed(number) {
-        show::text(b", memo zero");
+        show::text(rt, b", memo zero")?;
     } else {
-        show::text(b", memo as found");
+        show::text(rt, b", memo as found")?;
     }
+    Ok(())
 }
 
-fn show_answer(kind: Kind, number: u32, value: u32) {
+fn show_answer(rt: &impl Print, kind: Kind, number: u32, value: u32) -> io::Result<()> {
     if number != DONE {
-        show::named(b"refusal ", number);
-        show::text(b" and ");
+        show::named(rt, b"refusal ", number)?;
+        show::text(rt, b" and ")?;
     }
     match kind {
-        Kind::Makes => show::id(value),
+        Kind::Makes => show::id(rt, value)?,
         Kind::Works => {
-            show::id(value);
-            show_memo(number);
+            show::id(rt, value)?;
+            show_memo(rt, number)?;
         }
-        Kind::Tells => show::yes_or_no(value == YES),
-        Kind::Counts => show::number(value),
+        Kind::Tells => show::yes_or_no(rt, value == YES)?,
+        Kind::Counts => show::number(rt, value)?,
     }
+    Ok(())
 }
 
 fn is_right(memo: &[u64], case: Case, said: Answer) -> bool {
@@ -159,22 +162,30 @@ fn is_right(memo: &[u64], case: Case, said: Answer) -> bool {
 }
 
 // One line for a case; for a quiet one only where it is wrong.
-fn judge(memo: &[u64], c: Count, case: Case, quiet: bool, said: Answer) -> Count {
+fn judge(
+    rt: &impl Print,
+    memo: &[u64],
+    c: Count,
+    case: Case,
+    quiet: bool,
+    said: Answer,
+) -> io::Result<Count> {
     let id = said.id;
     let q = case.asks;
     let right = is_right(memo, case, said);
     if right && (quiet || case.of == QUIET) {
-        return show::counted(c, true);
+        return Ok(show::counted(c, true));
     }
-    show::name(case.of);
-    show_question(q);
-    show::text(b": ");
-    show_answer(kind_of(q), said.number, id.0);
-    show::judged(c, right)
+    show::name(rt, case.of)?;
+    show_question(rt, q)?;
+    show::text(rt, b": ")?;
+    show_answer(rt, kind_of(q), said.number, id.0)?;
+    show::judged(rt, c, right)
 }
 
 // All cases of a list. Where it is quiet, a right answer has no line.
 pub fn run(
+    rt: &impl Print,
     nodes: &mut [u32],
     children: &mut [u32],
     cuts: &mut [i64],
@@ -183,7 +194,7 @@ pub fn run(
     before: Count,
     list: List,
     quiet: bool,
-) -> Count {
+) -> io::Result<Count> {
     let mut c = before;
     let n = length(list);
     for k in 0..n {
@@ -191,7 +202,7 @@ pub fn run(
         let q = case.asks;
         fill(memo, SOILED);
         let said = ask(nodes, children, cuts, index, memo, q);
-        c = judge(memo, c, case, quiet, said);
+        c = judge(rt, memo, c, case, quiet, said)?;
     }
-    c
+    Ok(c)
 }

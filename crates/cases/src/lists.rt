@@ -5,7 +5,7 @@ use kernel::answers::{NO_ROOM, WRONG_VARIABLE};
 use ranges::bounds::{Bound, Comparison};
 use table::told::{BEYOND_PLACES, NOT_SOUND, UNKNOWN_ID, WRONG_ROOM};
 
-#[derive(Drop)]
+#[derive(Clone, Copy)]
 pub enum List {
     // C1 to C12, C14, C15, and restriction.
     First,

@@ -3,6 +3,8 @@
 
 #![tactic(auto)]
 
+use std::io;
+
 mod asking;
 mod lists;
 mod questions;
@@ -11,8 +13,8 @@ mod show;
 mod tables;
 mod words;
 
-fn main() {
-    let c = tables::shown(show::none());
-    let c = tables::refused(c);
-    show::total(tables::with_other_memos(c));
+fn main(rt: HostRuntime) -> io::Result<()> {
+    let c = tables::shown(&rt, show::none())?;
+    let c = tables::refused(&rt, c)?;
+    show::total(&rt, tables::with_other_memos(&rt, c)?)
 }

@@ -4,6 +4,7 @@ use super::show;
 use super::show::ZERO_POSITION;
 use ids::NodeId;
 use kernel::answers::{Answer, refused};
+use std::io;
 use table::calls::check;
 use table::limits::{MOST_EDGE_ROOM, MOST_EDGES, MOST_NODES};
 use table::told::DONE;
@@ -24,77 +25,93 @@ fn word(nodes: &[u32], n: usize, k: usize) -> usize {
     wide(nodes[i])
 }
 
-fn show_word(nodes: &[u32], n: usize, k: usize) {
-    show::text(b" ");
-    show::size(word(nodes, n, k));
+fn show_word(rt: &impl Print, nodes: &[u32], n: usize, k: usize) -> io::Result<()> {
+    show::text(rt, b" ")?;
+    show::size(rt, word(nodes, n, k))
 }
 
-fn show_child(children: &[u32], from: usize, k: usize) {
+fn show_child(rt: &impl Print, children: &[u32], from: usize, k: usize) -> io::Result<()> {
     if from >= MOST_EDGE_ROOM {
-        return;
+        return Ok(());
     }
     if k >= MOST_EDGES {
-        return;
+        return Ok(());
     }
     let i = from + k;
     if i >= children.len() {
-        return;
+        return Ok(());
     }
-    show::named(b" ", children[i]);
+    show::named(rt, b" ", children[i])
 }
 
-fn show_cut(cuts: &[i64], from: usize, k: usize) {
+fn show_cut(rt: &impl Print, cuts: &[i64], from: usize, k: usize) -> io::Result<()> {
     if from >= MOST_EDGE_ROOM {
-        return;
+        return Ok(());
     }
     if k >= MOST_EDGES {
-        return;
+        return Ok(());
     }
     let i = from + k;
     if i >= cuts.len() {
-        return;
+        return Ok(());
     }
-    show::text(b" ");
-    show::cut(cuts[i]);
+    show::text(rt, b" ")?;
+    show::cut(rt, cuts[i])
 }
 
-fn show_children(children: &[u32], from: usize, count: usize) {
-    show::text(b", children");
+fn show_children(rt: &impl Print, children: &[u32], from: usize, count: usize) -> io::Result<()> {
+    show::text(rt, b", children")?;
     for k in 0..count {
-        show_child(children, from, k);
+        show_child(rt, children, from, k)?;
     }
+    Ok(())
 }
 
-fn show_cuts(cuts: &[i64], from: usize, count: usize) {
-    show::text(b", cuts");
+fn show_cuts(rt: &impl Print, cuts: &[i64], from: usize, count: usize) -> io::Result<()> {
+    show::text(rt, b", cuts")?;
     for k in 0..count {
-        show_cut(cuts, from, k);
+        show_cut(rt, cuts, from, k)?;
     }
+    Ok(())
 }
 
-fn show_record(nodes: &[u32], n: usize) {
-    show::text(b"    node ");
-    show::size(n);
-    show::text(b":");
+fn show_record(rt: &impl Print, nodes: &[u32], n: usize) -> io::Result<()> {
+    show::text(rt, b"    node ")?;
+    show::size(rt, n)?;
+    show::text(rt, b":")?;
     for k in 0..4usize {
-        show_word(nodes, n, k);
+        show_word(rt, nodes, n, k)?;
     }
+    Ok(())
 }
 
 // The four words of a node, the children of its edges, and their cuts.
-fn show_node(nodes: &[u32], children: &[u32], cuts: &[i64], n: usize) {
+fn show_node(
+    rt: &impl Print,
+    nodes: &[u32],
+    children: &[u32],
+    cuts: &[i64],
+    n: usize,
+) -> io::Result<()> {
     let count = word(nodes, n, 1);
     let from = word(nodes, n, 2);
-    show_record(nodes, n);
-    show_children(children, from, count);
-    show_cuts(cuts, from, count);
-    show::text(b"\n");
+    show_record(rt, nodes, n)?;
+    show_children(rt, children, from, count)?;
+    show_cuts(rt, cuts, from, count)?;
+    show::text(rt, b"\n")
 }
 
-pub fn show_nodes(nodes: &[u32], children: &[u32], cuts: &[i64], used: usize) {
+pub fn show_nodes(
+    rt: &impl Print,
+    nodes: &[u32],
+    children: &[u32],
+    cuts: &[i64],
+    used: usize,
+) -> io::Result<()> {
     for n in 0..used {
-        show_node(nodes, children, cuts, n);
+        show_node(rt, nodes, children, cuts, n)?;
     }
+    Ok(())
 }
 
 // The number of the node that an id names.

@@ -1,14 +1,14 @@
 // What every part of the program writes with, and the count of what came out wrong.
 use ranges::places::{ZERO, position_of_key};
+use std::io;
+use std::io::Write;
 use table::words::cut_position;
-
-const OUT: i32 = 1;
 
 // What `cut_position` makes of the cut 0.
 pub const ZERO_POSITION: usize = 4294967297;
 
 // How many cases were run, and how many answers were not the document's.
-#[derive(Drop)]
+#[derive(Clone, Copy)]
 pub struct Count {
     pub run: u32,
     pub wrong: u32,
@@ -36,106 +36,112 @@ pub fn counted(c: Count, right: bool) -> Count {
     }
 }
 
-pub fn text(words: &[u8]) {
-    io::write_all(OUT, words);
+pub fn text(rt: &impl Print, words: &[u8]) -> io::Result<()> {
+    io::writer(rt).write_all(words)
 }
 
-pub fn number(n: u32) {
-    io::print_decimal(OUT, n as u64);
+pub fn number(rt: &impl Print, n: u32) -> io::Result<()> {
+    rt.print(n)
 }
 
-pub fn size(n: usize) {
-    io::print_decimal(OUT, n as u64);
+pub fn size(rt: &impl Print, n: usize) -> io::Result<()> {
+    rt.print(n)
 }
 
-pub fn named(name: &[u8], n: u32) {
-    text(name);
-    number(n);
+fn wide(rt: &impl Print, n: u64) -> io::Result<()> {
+    rt.print(n)
 }
 
-pub fn key(v: i32) {
+pub fn named(rt: &impl Print, name: &[u8], n: u32) -> io::Result<()> {
+    text(rt, name)?;
+    number(rt, n)
+}
+
+pub fn key(rt: &impl Print, v: i32) -> io::Result<()> {
     let position = position_of_key(v);
     if position < ZERO {
-        text(b"-");
-        io::print_decimal(OUT, (ZERO - position) / 2);
-        return;
+        text(rt, b"-")?;
+        wide(rt, (ZERO - position) / 2)?;
+        return Ok(());
     }
-    io::print_decimal(OUT, (position - ZERO) / 2);
+    wide(rt, (position - ZERO) / 2)
 }
 
-pub fn key_between(before: &[u8], v: i32, after: &[u8]) {
-    text(before);
-    key(v);
-    text(after);
+pub fn key_between(rt: &impl Print, before: &[u8], v: i32, after: &[u8]) -> io::Result<()> {
+    text(rt, before)?;
+    key(rt, v)?;
+    text(rt, after)
 }
 
-pub fn cut(z: i64) {
+pub fn cut(rt: &impl Print, z: i64) -> io::Result<()> {
     let position = cut_position(z);
     if position < ZERO_POSITION {
-        text(b"-");
-        size(ZERO_POSITION - position);
-        return;
+        text(rt, b"-")?;
+        size(rt, ZERO_POSITION - position)?;
+        return Ok(());
     }
-    size(position - ZERO_POSITION);
+    size(rt, position - ZERO_POSITION)
 }
 
 // TRUE, FALSE, or the number.
-pub fn id(n: u32) {
+pub fn id(rt: &impl Print, n: u32) -> io::Result<()> {
     if n == 0 {
-        text(b"TRUE");
+        text(rt, b"TRUE")?;
     } else if n == 1 {
-        text(b"FALSE");
+        text(rt, b"FALSE")?;
     } else {
-        number(n);
+        number(rt, n)?;
     }
+    Ok(())
 }
 
-pub fn reading(n: u32, place: u64) {
-    id(n);
-    text(b" at place ");
-    io::print_decimal(OUT, place);
-    text(b" with a true");
+pub fn reading(rt: &impl Print, n: u32, place: u64) -> io::Result<()> {
+    id(rt, n)?;
+    text(rt, b" at place ")?;
+    wide(rt, place)?;
+    text(rt, b" with a true")
 }
 
-pub fn yes_or_no(yes: bool) {
+pub fn yes_or_no(rt: &impl Print, yes: bool) -> io::Result<()> {
     if yes {
-        text(b"yes");
+        text(rt, b"yes")?;
     } else {
-        text(b"no");
+        text(rt, b"no")?;
     }
+    Ok(())
 }
 
 // The case of document 01 that a line is of.
-pub fn name(of: u32) {
+pub fn name(rt: &impl Print, of: u32) -> io::Result<()> {
     if of == 0 {
-        text(b"    ");
-        return;
+        text(rt, b"    ")?;
+        return Ok(());
     }
-    named(b"C", of);
+    named(rt, b"C", of)?;
     if of < 10 {
-        text(b" ");
+        text(rt, b" ")?;
     }
-    text(b" ");
+    text(rt, b" ")
 }
 
 // Ends a line.
-pub fn judged(c: Count, right: bool) -> Count {
+pub fn judged(rt: &impl Print, c: Count, right: bool) -> io::Result<Count> {
     if right {
-        text(b" ok\n");
+        text(rt, b" ok\n")?;
     } else {
-        text(b" WRONG\n");
+        text(rt, b" WRONG\n")?;
     }
-    counted(c, right)
+    Ok(counted(c, right))
 }
 
-pub fn as_found(c: Count, yes: bool) -> Count {
-    text(b"    every word of the table is as found");
-    judged(c, yes)
+pub fn as_found(rt: &impl Print, c: Count, yes: bool) -> io::Result<Count> {
+    text(rt, b"    every word of the table is as found")?;
+    judged(rt, c, yes)
 }
 
-pub fn total(c: Count) {
-    number(c.run);
-    text(b" cases, ");
-    number(c.wrong);
-    text(b" wrong\n");
+pub fn total(rt: &impl Print, c: Count) -> io::Result<()> {
+    number(rt, c.run)?;
+    text(rt, b" cases, ")?;
+    number(rt, c.wrong)?;
+    text(rt, b" wrong\n")
 }

@@ -1,5 +1,6 @@
 // The check of tables whose lengths are right, wrong by one, empty, and at the limits.
 use super::show;
+use std::io;
 use table::calls::check;
 use table::told::Checked;
 
@@ -35,57 +36,57 @@ pub fn check_front(
     check(&nodes[0..n], &children[0..c], &cuts[0..k], &index[0..x])
 }
 
-fn show_prefix(n: usize, c: usize, k: usize, x: usize) {
+fn show_prefix(rt: &impl Print, n: usize, c: usize, k: usize, x: usize) -> io::Result<()> {
     let nodes = LONG_NODES;
     let children = LONG_CHILDREN;
     let cuts = LONG_CUTS;
     let index = LONG_INDEX;
     let told = check_front(&nodes, &children, &cuts, &index, n, c, k, x);
-    show::text(b"lengths ");
-    show::lengths(n, c, k, x);
-    show::text(b" number ");
-    show::number(told.number);
-    show::text(b"\n");
+    show::text(rt, b"lengths ")?;
+    show::lengths(rt, n, c, k, x)?;
+    show::text(rt, b" number ")?;
+    show::number(rt, told.number)?;
+    show::text(rt, b"\n")
 }
 
 // Each slice one word too short and one too long.
-fn show_off_by_one() {
-    show_prefix(16, 10, 10, 16);
-    show_prefix(15, 10, 10, 16);
-    show_prefix(17, 10, 10, 16);
-    show_prefix(16, 9, 10, 16);
-    show_prefix(16, 11, 10, 16);
-    show_prefix(16, 10, 9, 16);
-    show_prefix(16, 10, 11, 16);
-    show_prefix(16, 10, 10, 15);
-    show_prefix(16, 10, 10, 17);
+fn show_off_by_one(rt: &impl Print) -> io::Result<()> {
+    show_prefix(rt, 16, 10, 10, 16)?;
+    show_prefix(rt, 15, 10, 10, 16)?;
+    show_prefix(rt, 17, 10, 10, 16)?;
+    show_prefix(rt, 16, 9, 10, 16)?;
+    show_prefix(rt, 16, 11, 10, 16)?;
+    show_prefix(rt, 16, 10, 9, 16)?;
+    show_prefix(rt, 16, 10, 11, 16)?;
+    show_prefix(rt, 16, 10, 10, 15)?;
+    show_prefix(rt, 16, 10, 10, 17)
 }
 
-fn show_nothing_lent() {
-    show_prefix(0, 10, 10, 16);
-    show_prefix(0, 10, 10, 0);
-    show_prefix(16, 0, 10, 16);
-    show_prefix(16, 10, 0, 16);
-    show_prefix(16, 0, 0, 16);
-    show_prefix(16, 10, 10, 0);
-    show_prefix(0, 0, 0, 0);
+fn show_nothing_lent(rt: &impl Print) -> io::Result<()> {
+    show_prefix(rt, 0, 10, 10, 16)?;
+    show_prefix(rt, 0, 10, 10, 0)?;
+    show_prefix(rt, 16, 0, 10, 16)?;
+    show_prefix(rt, 16, 10, 0, 16)?;
+    show_prefix(rt, 16, 0, 0, 16)?;
+    show_prefix(rt, 16, 10, 10, 0)?;
+    show_prefix(rt, 0, 0, 0, 0)
 }
 
 // Lengths that fit one another: too little room, just enough, less than the table uses, and room for which the index is another.
-fn show_other_rooms() {
-    show_prefix(16, 1, 1, 16);
-    show_prefix(16, 7, 7, 16);
-    show_prefix(16, 6, 6, 16);
-    show_prefix(16, 11, 11, 16);
-    show_prefix(12, 10, 10, 12);
-    show_prefix(20, 10, 10, 20);
-    show_prefix(18, 10, 10, 16);
+fn show_other_rooms(rt: &impl Print) -> io::Result<()> {
+    show_prefix(rt, 16, 1, 1, 16)?;
+    show_prefix(rt, 16, 7, 7, 16)?;
+    show_prefix(rt, 16, 6, 6, 16)?;
+    show_prefix(rt, 16, 11, 11, 16)?;
+    show_prefix(rt, 12, 10, 10, 12)?;
+    show_prefix(rt, 20, 10, 10, 20)?;
+    show_prefix(rt, 18, 10, 10, 16)
 }
 
 // A table without nodes that has this room.
-fn show_empty(records: usize, edges: usize) {
+fn show_empty(rt: &impl Print, records: usize, edges: usize) -> io::Result<()> {
     if records > 4097 || edges > 16385 {
-        return;
+        return Ok(());
     }
     let nodes = [0u32; 16388];
     let children = [0u32; 16385];
@@ -101,21 +102,21 @@ fn show_empty(records: usize, edges: usize) {
         edges,
         records * 4,
     );
-    show::text(b"empty ");
-    show::size(records);
-    show::text(b" ");
-    show::size(edges);
-    show::text(b" number ");
-    show::number(told.number);
-    show::text(b"\n");
+    show::text(rt, b"empty ")?;
+    show::size(rt, records)?;
+    show::text(rt, b" ")?;
+    show::size(rt, edges)?;
+    show::text(rt, b" number ")?;
+    show::number(rt, told.number)?;
+    show::text(rt, b"\n")
 }
 
-pub fn show_lengths() {
-    show_off_by_one();
-    show_nothing_lent();
-    show_other_rooms();
-    show_empty(4096, 2);
-    show_empty(4097, 2);
-    show_empty(1, 16384);
-    show_empty(1, 16385);
+pub fn show_lengths(rt: &impl Print) -> io::Result<()> {
+    show_off_by_one(rt)?;
+    show_nothing_lent(rt)?;
+    show_other_rooms(rt)?;
+    show_empty(rt, 4096, 2)?;
+    show_empty(rt, 4097, 2)?;
+    show_empty(rt, 1, 16384)?;
+    show_empty(rt, 1, 16385)
 }

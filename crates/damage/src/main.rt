@@ -3,6 +3,8 @@
 
 #![tactic(auto)]
 
+use std::io;
+
 mod fresh;
 mod laid;
 mod lengths;
@@ -11,10 +13,10 @@ mod show;
 mod sound;
 mod words;
 
-fn main() {
-    words::show_words();
-    lengths::show_lengths();
-    readings::show_refusals();
-    readings::show_readings();
-    fresh::show_fresh();
+fn main(rt: HostRuntime) -> io::Result<()> {
+    words::show_words(&rt)?;
+    lengths::show_lengths(&rt)?;
+    readings::show_refusals(&rt)?;
+    readings::show_readings(&rt)?;
+    fresh::show_fresh(&rt)
 }

@@ -1,45 +1,52 @@
 // What every part of the program writes with.
+use std::io;
+use std::io::Write;
 use table::told::Checked;
 
-const OUT: i32 = 1;
-
-pub fn text(words: &[u8]) {
-    io::write_all(OUT, words);
+pub fn text(rt: &impl Print, words: &[u8]) -> io::Result<()> {
+    io::writer(rt).write_all(words)
 }
 
-pub fn number(n: u32) {
-    io::print_decimal(OUT, n as u64);
+pub fn number(rt: &impl Print, n: u32) -> io::Result<()> {
+    rt.print(n)
 }
 
-pub fn size(n: usize) {
-    io::print_decimal(OUT, n as u64);
+pub fn size(rt: &impl Print, n: usize) -> io::Result<()> {
+    rt.print(n)
 }
 
-pub fn answer(yes: bool) {
+pub fn answer(rt: &impl Print, yes: bool) -> io::Result<()> {
     if yes {
-        text(b" yes");
+        text(rt, b" yes")?;
     } else {
-        text(b" no");
+        text(rt, b" no")?;
     }
+    Ok(())
 }
 
-pub fn checked(c: Checked) {
-    text(b" ");
-    number(c.number);
-    text(b" ");
-    size(c.nodes);
-    text(b" ");
-    size(c.edges);
-    text(b"\n");
+pub fn checked(rt: &impl Print, c: Checked) -> io::Result<()> {
+    text(rt, b" ")?;
+    number(rt, c.number)?;
+    text(rt, b" ")?;
+    size(rt, c.nodes)?;
+    text(rt, b" ")?;
+    size(rt, c.edges)?;
+    text(rt, b"\n")
 }
 
 // The lengths of four slices.
-pub fn lengths(nodes: usize, children: usize, cuts: usize, index: usize) {
-    size(nodes);
-    text(b" ");
-    size(children);
-    text(b" ");
-    size(cuts);
-    text(b" ");
-    size(index);
+pub fn lengths(
+    rt: &impl Print,
+    nodes: usize,
+    children: usize,
+    cuts: usize,
+    index: usize,
+) -> io::Result<()> {
+    size(rt, nodes)?;
+    text(rt, b" ")?;
+    size(rt, children)?;
+    text(rt, b" ")?;
+    size(rt, cuts)?;
+    text(rt, b" ")?;
+    size(rt, index)
 }

@@ -7,7 +7,7 @@ const MOST: u64 = 2147483648;
 const NONE: u64 = 4294967296;
 
 // A key, or none.
-#[derive(Drop)]
+#[derive(Clone, Copy)]
 pub enum Key {
     Is(i32),
     Nothing,

@@ -4,6 +4,7 @@ use super::names::{Sheet, empty_sheet, new_rule, new_variable, put_rule};
 use super::rules::{Partial, condition};
 use super::text::{Word, bytes_of, next_line, next_word, reads};
 use ids::NodeId;
+use std::io;
 use std::num::{wrapping_add_u64, wrapping_add_usize};
 use table::limits::{FIRST_BOOLEAN, VARIABLES};
 
@@ -11,7 +12,7 @@ use table::limits::{FIRST_BOOLEAN, VARIABLES};
 pub const MOST_SHOWN: u64 = 20;
 
 // The start of a rule's line: its name, and where the colon behind it ends. Or why it is none, and where.
-#[derive(Drop)]
+#[derive(Clone, Copy)]
 struct Head {
     name: Word,
     end: usize,
@@ -20,29 +21,35 @@ struct Head {
 }
 
 // A line that cannot be read is shown at once, and counted.
-fn refused(text: &[u8], at: usize, fault: Fault, s: Sheet) -> Sheet {
+fn refused(rt: &impl Print, text: &[u8], at: usize, fault: Fault, s: Sheet) -> io::Result<Sheet> {
     let mut s = s;
     let limit = is_limit(fault);
     if limit || s.faults < MOST_SHOWN {
-        show_fault(text, s.line, at, fault);
+        show_fault(rt, text, s.line, at, fault)?;
     }
     s.faults = wrapping_add_u64(s.faults, 1);
     s.limited = limit;
-    s
+    Ok(s)
 }
 
 // `measure NAME` or `switch NAME`, from the name on: the next variable of its kind gets the name.
-fn read_variable(text: &[u8], at: usize, switch: bool, s: Sheet) -> Sheet {
+fn read_variable(
+    rt: &impl Print,
+    text: &[u8],
+    at: usize,
+    switch: bool,
+    s: Sheet,
+) -> io::Result<Sheet> {
     let mut s = s;
     let mut names = s.variables;
     let w = next_word(text, at);
     let fault = new_variable(text, names, w);
     let Fault::Nothing = fault else {
-        return refused(text, w.start, fault, s);
+        return refused(rt, text, w.start, fault, s);
     };
     let rest = next_word(text, w.end);
     if !reads(text, rest, b"") {
-        return refused(text, rest.start, Fault::StrayWord, s);
+        return refused(rt, text, rest.start, Fault::StrayWord, s);
     }
     let mut v = s.next_measure;
     let mut limit = FIRST_BOOLEAN;
@@ -53,7 +60,7 @@ fn read_variable(text: &[u8], at: usize, switch: bool, s: Sheet) -> Sheet {
         fault = Fault::Hit(Limit::Switches);
     }
     if v >= VARIABLES || v >= limit {
-        return refused(text, w.start, fault, s);
+        return refused(rt, text, w.start, fault, s);
     }
     names.words[v] = w;
     s.variables = names;
@@ -62,22 +69,29 @@ fn read_variable(text: &[u8], at: usize, switch: bool, s: Sheet) -> Sheet {
     } else {
         s.next_measure = v + 1;
     }
-    s
+    Ok(s)
 }
 
 // The sheet with one rule more.
-fn with_rule(text: &[u8], rules: &mut [usize], s: Sheet, w: Word, id: NodeId) -> Sheet {
+fn with_rule(
+    rt: &impl Print,
+    text: &[u8],
+    rules: &mut [usize],
+    s: Sheet,
+    w: Word,
+    id: NodeId,
+) -> io::Result<Sheet> {
     let mut s = s;
     let n = s.count;
     if !put_rule(rules, n, w, id) {
-        return refused(text, w.start, Fault::Hit(Limit::Rules), s);
+        return refused(rt, text, w.start, Fault::Hit(Limit::Rules), s);
     }
     s.count = wrapping_add_usize(n, 1);
     let width = bytes_of(text, w).len();
     if s.widest < width {
         s.widest = width;
     }
-    s
+    Ok(s)
 }
 
 // `rule NAME:`, from the name on.
@@ -101,13 +115,20 @@ fn rule_head(text: &[u8], rules: &[usize], count: usize, at: usize) -> Head {
 }
 
 // A rule whose condition was read, or why it was not. "No room" is shown later, when it is found out which limit that is.
-fn rule_read(text: &[u8], rules: &mut [usize], s: Sheet, h: Head, c: Partial) -> Sheet {
+fn rule_read(
+    rt: &impl Print,
+    text: &[u8],
+    rules: &mut [usize],
+    s: Sheet,
+    h: Head,
+    c: Partial,
+) -> io::Result<Sheet> {
     let mut s = s;
     let name = h.name;
     let fault = c.fault;
     let id = c.any;
-    match fault {
-        Fault::Nothing => with_rule(text, rules, s, name, id),
+    Ok(match fault {
+        Fault::Nothing => with_rule(rt, text, rules, s, name, id)?,
         Fault::NoRoom => {
             s.faults = wrapping_add_u64(s.faults, 1);
             s.limited = true;
@@ -116,12 +137,13 @@ fn rule_read(text: &[u8], rules: &mut [usize], s: Sheet, h: Head, c: Partial) ->
             s.last_condition = h.end;
             s
         }
-        _ => refused(text, c.at, fault, s),
-    }
+        _ => refused(rt, text, c.at, fault, s)?,
+    })
 }
 
 // `rule NAME: CONDITION`, from the name on.
 fn read_rule(
+    rt: &impl Print,
     text: &[u8],
     nodes: &mut [u32],
     children: &mut [u32],
@@ -131,33 +153,34 @@ fn read_rule(
     rules: &mut [usize],
     at: usize,
     s: Sheet,
-) -> Sheet {
+) -> io::Result<Sheet> {
     let h = rule_head(text, rules, s.count, at);
     let fault = h.fault;
     let Fault::Nothing = fault else {
-        return refused(text, h.place, fault, s);
+        return refused(rt, text, h.place, fault, s);
     };
     let variables = s.variables;
     let c = condition(text, nodes, children, cuts, index, memo, variables, h.end);
-    rule_read(text, rules, s, h, c)
+    rule_read(rt, text, rules, s, h, c)
 }
 
 // A line that is no rule. Its first word says what it is; an empty line and a comment say nothing.
-fn read_other(text: &[u8], w: Word, s: Sheet) -> Sheet {
+fn read_other(rt: &impl Print, text: &[u8], w: Word, s: Sheet) -> io::Result<Sheet> {
     if reads(text, w, b"") {
-        return s;
+        return Ok(s);
     }
     if reads(text, w, b"measure") {
-        return read_variable(text, w.end, false, s);
+        return read_variable(rt, text, w.end, false, s);
     }
     if reads(text, w, b"switch") {
-        return read_variable(text, w.end, true, s);
+        return read_variable(rt, text, w.end, true, s);
     }
-    refused(text, w.start, Fault::UnknownLine, s)
+    refused(rt, text, w.start, Fault::UnknownLine, s)
 }
 
 // One line.
 fn read_line(
+    rt: &impl Print,
     text: &[u8],
     nodes: &mut [u32],
     children: &mut [u32],
@@ -167,14 +190,16 @@ fn read_line(
     rules: &mut [usize],
     at: usize,
     s: Sheet,
-) -> Sheet {
+) -> io::Result<Sheet> {
     let mut s = s;
     s.line = wrapping_add_u64(s.line, 1);
     let w = next_word(text, at);
     if reads(text, w, b"rule") {
-        return read_rule(text, nodes, children, cuts, index, memo, rules, w.end, s);
+        return read_rule(
+            rt, text, nodes, children, cuts, index, memo, rules, w.end, s,
+        );
     }
-    read_other(text, w, s)
+    read_other(rt, text, w, s)
 }
 
 // Where to read on: at the next line, or where a limit was hit at the end of the text.
@@ -188,6 +213,7 @@ fn next_to_read(text: &[u8], at: usize, limited: bool) -> usize {
 // The whole text, or as much of it as comes before a limit. A line has at least one byte, if only its newline, so there are no more lines
 // than bytes.
 pub fn read_lines(
+    rt: &impl Print,
     text: &[u8],
     nodes: &mut [u32],
     children: &mut [u32],
@@ -195,14 +221,14 @@ pub fn read_lines(
     index: &mut [u32],
     memo: &mut [u64],
     rules: &mut [usize],
-) -> Sheet {
+) -> io::Result<Sheet> {
     let mut s = empty_sheet();
     let mut at = 0;
     let mut turns = text.len();
     while turns > 0 && at < text.len() {
-        s = read_line(text, nodes, children, cuts, index, memo, rules, at, s);
+        s = read_line(rt, text, nodes, children, cuts, index, memo, rules, at, s)?;
         at = next_to_read(text, at, s.limited);
         turns -= 1;
     }
-    s
+    Ok(s)
 }

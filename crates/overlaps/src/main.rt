@@ -3,6 +3,10 @@
 
 #![tactic(auto)]
 
+use std::io::Read;
+use std::rt::Env;
+use std::{env, io};
+
 mod characters;
 mod faults;
 mod keys;
@@ -14,7 +18,6 @@ mod show;
 mod text;
 
 use faults::{Fault, Limit, Used, show_fault};
-use libc::STDIN_FILENO;
 use lines::MOST_SHOWN;
 use names::{Names, RULE_WORDS, Sheet};
 use rules::condition;
@@ -28,7 +31,7 @@ use table::told::Checked;
 // The most that is read.
 const MOST_TEXT: usize = 262144;
 
-#[derive(Drop)]
+#[derive(Clone, Copy)]
 enum Verdict {
     NoneOverlap,
     SomeOverlap,
@@ -36,7 +39,7 @@ enum Verdict {
 }
 
 // What the arguments ask for.
-#[derive(Drop)]
+#[derive(Clone, Copy)]
 enum Asked {
     Findings,
     All,
@@ -44,16 +47,19 @@ enum Asked {
 }
 
 // Why there is no report, where lines could not be read.
-fn show_unread(faults: u64, limited: bool) {
-    show::text(b"\nLines that cannot be read: ");
-    show::number(faults);
+fn show_unread(rt: &impl Print, faults: u64, limited: bool) -> io::Result<()> {
+    show::text(rt, b"\nLines that cannot be read: ")?;
+    show::number(rt, faults)?;
     if faults > MOST_SHOWN {
-        show::text(b" (not all are shown)");
+        show::text(rt, b" (not all are shown)")?;
     }
     if limited {
-        show::text(b"; at a limit reading stops");
+        show::text(rt, b"; at a limit reading stops")?;
     }
-    show::text(b".\nNo pairs are reported: a report without these lines could hide an overlap.\n");
+    show::text(
+        rt,
+        b".\nNo pairs are reported: a report without these lines could hide an overlap.\n",
+    )
 }
 
 // Whether the condition at a position has room in a table of its own, as far as it can be read.
@@ -81,7 +87,7 @@ fn fits_alone(text: &[u8], variables: Names, at: usize) -> bool {
 }
 
 // Which limit the last rule hit, where the kernel found no room: that of the table, where the rule fits alone, or one of its own.
-fn show_no_room(text: &[u8], s: Sheet, used: Checked) {
+fn show_no_room(rt: &impl Print, text: &[u8], s: Sheet, used: Checked) -> io::Result<()> {
     let variables = s.variables;
     let used = Used {
         nodes: used.nodes as u64,
@@ -91,12 +97,12 @@ fn show_no_room(text: &[u8], s: Sheet, used: Checked) {
     if fits_alone(text, variables, s.last_condition) {
         limit = Limit::Table(used);
     }
-    show_fault(text, s.line, s.last_name, Fault::Hit(limit));
+    show_fault(rt, text, s.line, s.last_name, Fault::Hit(limit))
 }
 
 // Reads the rules into an empty table and reports on them, if there are some and every line could be read. The table has all the room that
 // the kernel allows, and so has the memo: docs/LAYOUT.md. All words 0 is the empty table.
-fn compare(text: &[u8], all: bool) -> Verdict {
+fn compare(rt: &impl Print, text: &[u8], all: bool) -> io::Result<Verdict> {
     let mut nodes = [0u32; MOST_NODES * RECORD_WORDS];
     let mut children = [0u32; MOST_EDGE_ROOM];
     let mut cuts = [0i64; MOST_EDGE_ROOM];
@@ -104,6 +110,7 @@ fn compare(text: &[u8], all: bool) -> Verdict {
     let mut memo = [0u64; MOST_NODES * MEMO_WORDS];
     let mut rules = [0usize; RULE_WORDS];
     let s = lines::read_lines(
+        rt,
         text,
         &mut nodes,
         &mut children,
@@ -111,21 +118,22 @@ fn compare(text: &[u8], all: bool) -> Verdict {
         &mut index,
         &mut memo,
         &mut rules,
-    );
+    )?;
     let used = check(&nodes, &children, &cuts, &index);
     if s.no_room {
-        show_no_room(text, s, used);
+        show_no_room(rt, text, s, used)?;
     }
     if s.faults > 0 {
-        show_unread(s.faults, s.limited);
-        return Verdict::NoReport;
+        show_unread(rt, s.faults, s.limited)?;
+        return Ok(Verdict::NoReport);
     }
     if s.count == 0 {
-        show::text(b"No rules found: no line starts with the word rule.\n");
-        return Verdict::NoReport;
+        show::text(rt, b"No rules found: no line starts with the word rule.\n")?;
+        return Ok(Verdict::NoReport);
     }
     let switches = wrapping_sub_usize(s.next_switch, FIRST_BOOLEAN);
     let t = report::show_report(
+        rt,
         text,
         &mut nodes,
         &mut children,
@@ -136,61 +144,84 @@ fn compare(text: &[u8], all: bool) -> Verdict {
         s.count,
         s.widest,
         all,
-    );
-    report::show_sizes(s.count, s.next_measure, switches, used);
+    )?;
+    report::show_sizes(rt, s.count, s.next_measure, switches, used)?;
     if t.refused > 0 {
-        return Verdict::NoReport;
+        return Ok(Verdict::NoReport);
     }
     if wrapping_add_u64(t.overlap, wrapping_add_u64(t.same, t.inside)) > 0 {
-        return Verdict::SomeOverlap;
+        return Ok(Verdict::SomeOverlap);
     }
-    Verdict::NoneOverlap
+    Ok(Verdict::NoneOverlap)
+}
+
+// Reads until the buffer is full, the input has ended or a read has failed, and answers how many bytes were read. Each read but the last
+// brings a byte, so there are no more reads than bytes.
+fn read_full(rt: &impl Input, buffer: &mut [u8]) -> usize
+    ensures { result ≤ length buffer.new }
+{
+    let mut done = 0;
+    for _ in 0..MOST_TEXT {
+        let n = rt.reader().read(&mut buffer[done..]).unwrap_or(0);
+        if n == 0 {
+            break;
+        }
+        done += n;
+    }
+    done
 }
 
 // The whole text from standard input. One byte is asked for behind what was read: 0 is the end of the input, and anything else a text that
 // is too long or a failed read.
-fn read_and_compare(all: bool) -> Verdict {
+fn read_and_compare(rt: &(impl Print + Input), all: bool) -> io::Result<Verdict> {
     let mut text = [0u8; MOST_TEXT];
-    let n = io::read_full(STDIN_FILENO, &mut text);
+    let n = read_full(rt, &mut text);
     let mut behind = [0u8; 1];
-    let more = libc::read(STDIN_FILENO, &mut behind);
-    if more < 0 {
-        show::text(b"The rules could not be read to their end. No pairs are reported.\n");
-        return Verdict::NoReport;
-    }
-    if more > 0 {
-        show::text(b"limit: 262144 bytes of text. No pairs are reported.\n");
-        return Verdict::NoReport;
-    }
-    compare(&text[..n], all)
+    Ok(match rt.reader().read(&mut behind) {
+        Err(_) => {
+            show::text(
+                rt,
+                b"The rules could not be read to their end. No pairs are reported.\n",
+            )?;
+            Verdict::NoReport
+        }
+        Ok(0) => compare(rt, &text[..n], all)?,
+        Ok(_) => {
+            show::text(rt, b"limit: 262144 bytes of text. No pairs are reported.\n")?;
+            Verdict::NoReport
+        }
+    })
 }
 
 // Without an argument the findings; with --all every pair and every rule.
-fn what_is_asked() -> Asked {
-    let count = os::arg_count();
-    if count < 2 {
-        return Asked::Findings;
+fn what_is_asked(rt: &(impl Env + Alloc)) -> io::Result<Asked> {
+    let mut words = match env::args(rt) {
+        Ok(words) => words,
+        // An argument that is no text is not `--all`.
+        Err(e) if e.kind() == io::ErrorKind::InvalidData => return Ok(Asked::Unknown),
+        Err(e) => return Err(e),
+    };
+    words.next();
+    match words.next() {
+        None => Ok(Asked::Findings),
+        Some(word) if word.as_str() == "--all" && words.next().is_none() => Ok(Asked::All),
+        Some(_) => Ok(Asked::Unknown),
     }
-    let mut word = [0u8; 8];
-    let n = os::arg(1, &mut word);
-    if count == 2 && check::same(&word[..n], b"--all") {
-        return Asked::All;
-    }
-    Asked::Unknown
 }
 
-fn main() {
-    let verdict = match what_is_asked() {
-        Asked::Findings => read_and_compare(false),
-        Asked::All => read_and_compare(true),
+fn main(rt: HostRuntime) -> io::Result<()> {
+    let verdict = match what_is_asked(&rt)? {
+        Asked::Findings => read_and_compare(&rt, false)?,
+        Asked::All => read_and_compare(&rt, true)?,
         Asked::Unknown => {
-            show::text(b"The only argument is --all. No pairs are reported.\n");
+            show::text(&rt, b"The only argument is --all. No pairs are reported.\n")?;
             Verdict::NoReport
         }
     };
     match verdict {
-        Verdict::NoneOverlap => show::text(b"\nverdict: no two rules overlap\n"),
-        Verdict::SomeOverlap => show::text(b"\nverdict: some rules overlap\n"),
-        Verdict::NoReport => show::text(b"\nverdict: no report\n"),
+        Verdict::NoneOverlap => show::text(&rt, b"\nverdict: no two rules overlap\n")?,
+        Verdict::SomeOverlap => show::text(&rt, b"\nverdict: some rules overlap\n")?,
+        Verdict::NoReport => show::text(&rt, b"\nverdict: no report\n")?,
     }
+    Ok(())
 }

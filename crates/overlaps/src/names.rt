@@ -13,13 +13,13 @@ pub const RULE_WORDS: usize = 768;
 const HEADING: usize = 10;
 
 // 64 names, where the empty word stands for none. Variable v has name v: measures are the variables 0, 1, .. and switches 32, 33, ..
-#[derive(Drop)]
+#[derive(Clone, Copy)]
 pub struct Names {
     pub words: [Word; 64],
 }
 
 // What was read so far, beside the rules.
-#[derive(Drop)]
+#[derive(Clone, Copy)]
 pub struct Sheet {
     pub variables: Names,
     // The variables that the next measure and the next switch get.
@@ -40,14 +40,14 @@ pub struct Sheet {
 }
 
 // A slot of `Names`, or none.
-#[derive(Drop)]
+#[derive(Clone, Copy)]
 pub enum Found {
     At(usize),
     Nothing,
 }
 
 // A rule: its name, and the kernel's id of its condition.
-#[derive(Drop)]
+#[derive(Clone, Copy)]
 pub struct Rule {
     pub name: Word,
     pub id: NodeId,

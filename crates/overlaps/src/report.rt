@@ -6,6 +6,7 @@ use super::text::{NO_WORD, Word, bytes_of};
 use ids::NodeId;
 use kernel::answers::{Answer, NO_ROOM};
 use kernel::joins_calls::and;
+use std::io;
 use std::num::wrapping_add_u64;
 use table::told::{Checked, DONE};
 
@@ -16,7 +17,7 @@ const PAIRS: usize = 65536;
 const KIND: usize = 9;
 
 // What two rules are to each other.
-#[derive(Drop)]
+#[derive(Clone, Copy)]
 enum Relation {
     // No reading makes both hold.
     Apart,
@@ -33,7 +34,7 @@ enum Relation {
 }
 
 // How many pairs are what.
-#[derive(Drop)]
+#[derive(Clone, Copy)]
 pub struct Tally {
     pub apart: u64,
     pub overlap: u64,
@@ -83,61 +84,79 @@ fn related(
 }
 
 // The heading of the table of pairs.
-fn show_heading(width: usize) {
-    show::column(b"pair", KIND);
-    show::column(b"rule", width);
-    show::text(b"  ");
-    show::column(b"other rule", width);
-    show::text(b"  both corrections apply\n");
+fn show_heading(rt: &impl Print, width: usize) -> io::Result<()> {
+    show::column(rt, b"pair", KIND)?;
+    show::column(rt, b"rule", width)?;
+    show::text(rt, b"  ")?;
+    show::column(rt, b"other rule", width)?;
+    show::text(rt, b"  both corrections apply\n")
 }
 
 // A row of the table of pairs.
-fn show_row(text: &[u8], width: usize, kind: &[u8], first: Word, second: Word, when: &[u8]) {
-    show::column(kind, KIND);
-    show::column(bytes_of(text, first), width);
-    show::text(b"  ");
-    show::column(bytes_of(text, second), width);
-    show::text(b"  ");
-    show::text(when);
-    show::text(b"\n");
+fn show_row(
+    rt: &impl Print,
+    text: &[u8],
+    width: usize,
+    kind: &[u8],
+    first: Word,
+    second: Word,
+    when: &[u8],
+) -> io::Result<()> {
+    show::column(rt, kind, KIND)?;
+    show::column(rt, bytes_of(text, first), width)?;
+    show::text(rt, b"  ")?;
+    show::column(rt, bytes_of(text, second), width)?;
+    show::text(rt, b"  ")?;
+    show::text(rt, when)?;
+    show::text(rt, b"\n")
 }
 
 // Shows a pair and counts it; one that is apart is shown only where all are asked for. Of a pair inside, the inner rule comes first.
-fn found(text: &[u8], width: usize, a: Word, b: Word, r: Relation, all: bool, t: Tally) -> Tally {
+fn found(
+    rt: &impl Print,
+    text: &[u8],
+    width: usize,
+    a: Word,
+    b: Word,
+    r: Relation,
+    all: bool,
+    t: Tally,
+) -> io::Result<Tally> {
     let mut t = t;
     match r {
         Relation::Apart => {
             if all {
-                show_row(text, width, b"apart", a, b, b"never: proved");
+                show_row(rt, text, width, b"apart", a, b, b"never: proved")?;
             }
             t.apart = wrapping_add_u64(t.apart, 1);
         }
         Relation::Overlap => {
-            show_row(text, width, b"OVERLAP", a, b, b"at some readings");
+            show_row(rt, text, width, b"OVERLAP", a, b, b"at some readings")?;
             t.overlap = wrapping_add_u64(t.overlap, 1);
         }
         Relation::Same => {
-            show_row(text, width, b"SAME", a, b, b"when either holds");
+            show_row(rt, text, width, b"SAME", a, b, b"when either holds")?;
             t.same = wrapping_add_u64(t.same, 1);
         }
         Relation::Inside => {
-            show_row(text, width, b"INSIDE", a, b, b"when the first holds");
+            show_row(rt, text, width, b"INSIDE", a, b, b"when the first holds")?;
             t.inside = wrapping_add_u64(t.inside, 1);
         }
         Relation::Around => {
-            show_row(text, width, b"INSIDE", b, a, b"when the first holds");
+            show_row(rt, text, width, b"INSIDE", b, a, b"when the first holds")?;
             t.inside = wrapping_add_u64(t.inside, 1);
         }
         Relation::Refused => {
-            show_row(text, width, b"REFUSED", a, b, b"not known");
+            show_row(rt, text, width, b"REFUSED", a, b, b"not known")?;
             t.refused = wrapping_add_u64(t.refused, 1);
         }
     }
-    t
+    Ok(t)
 }
 
 // Pair k, if its first rule comes before its second.
 fn pair(
+    rt: &impl Print,
     text: &[u8],
     nodes: &mut [u32],
     children: &mut [u32],
@@ -150,11 +169,11 @@ fn pair(
     k: usize,
     all: bool,
     t: Tally,
-) -> Tally {
+) -> io::Result<Tally> {
     let i = k / MOST_RULES;
     let j = k % MOST_RULES;
     if i >= j || j >= count {
-        return t;
+        return Ok(t);
     }
     let first = rule_at(rules, i);
     let second = rule_at(rules, j);
@@ -163,11 +182,12 @@ fn pair(
     let a = first.name;
     let b = second.name;
     let r = related(nodes, children, cuts, index, memo, x, y);
-    found(text, width, a, b, r, all, t)
+    found(rt, text, width, a, b, r, all, t)
 }
 
 // All pairs.
 fn all_pairs(
+    rt: &impl Print,
     text: &[u8],
     nodes: &mut [u32],
     children: &mut [u32],
@@ -178,7 +198,7 @@ fn all_pairs(
     count: usize,
     width: usize,
     all: bool,
-) -> Tally {
+) -> io::Result<Tally> {
     let mut t = Tally {
         apart: 0,
         overlap: 0,
@@ -188,73 +208,100 @@ fn all_pairs(
     };
     for k in 0..PAIRS {
         t = pair(
-            text, nodes, children, cuts, index, memo, rules, count, width, k, all, t,
-        );
+            rt, text, nodes, children, cuts, index, memo, rules, count, width, k, all, t,
+        )?;
     }
-    t
+    Ok(t)
 }
 
 // A rule that always or never holds is a finding too: nobody writes one on purpose. Where all is asked for, every rule is shown with its id.
-fn show_rule(text: &[u8], rule: Rule, width: usize, all: bool) {
+fn show_rule(rt: &impl Print, text: &[u8], rule: Rule, width: usize, all: bool) -> io::Result<()> {
     let id = rule.id;
     let name = rule.name;
     if id.is_true() {
         show_row(
+            rt,
             text,
             width,
             b"ALWAYS",
             name,
             NO_WORD,
             b"every reading meets it",
-        );
+        )?;
     }
     if id.is_false() {
-        show_row(text, width, b"NEVER", name, NO_WORD, b"no reading meets it");
+        show_row(
+            rt,
+            text,
+            width,
+            b"NEVER",
+            name,
+            NO_WORD,
+            b"no reading meets it",
+        )?;
     }
     if all {
-        show::column(b"rule", KIND);
-        show::column(bytes_of(text, name), width);
-        show::labelled(b"  id ", id.0 as u64);
-        show::text(b"\n");
+        show::column(rt, b"rule", KIND)?;
+        show::column(rt, bytes_of(text, name), width)?;
+        show::labelled(rt, b"  id ", id.0 as u64)?;
+        show::text(rt, b"\n")?;
     }
+    Ok(())
 }
 
 // The rules that are findings, or all.
-fn show_rules(text: &[u8], rules: &[usize], count: usize, width: usize, all: bool) {
+fn show_rules(
+    rt: &impl Print,
+    text: &[u8],
+    rules: &[usize],
+    count: usize,
+    width: usize,
+    all: bool,
+) -> io::Result<()> {
     for i in 0..count {
-        show_rule(text, rule_at(rules, i), width, all);
+        show_rule(rt, text, rule_at(rules, i), width, all)?;
     }
+    Ok(())
 }
 
 // How many pairs are what.
-fn show_tally(t: Tally) {
+fn show_tally(rt: &impl Print, t: Tally) -> io::Result<()> {
     let inner = wrapping_add_u64(t.same, t.inside);
     show::labelled(
+        rt,
         b"\nPairs that overlap: ",
         wrapping_add_u64(t.overlap, inner),
-    );
-    show::labelled(b" (the same condition: ", t.same);
-    show::labelled(b", one inside the other: ", t.inside);
-    show::labelled(b"). Pairs proved apart: ", t.apart);
-    show::text(b".\n");
+    )?;
+    show::labelled(rt, b" (the same condition: ", t.same)?;
+    show::labelled(rt, b", one inside the other: ", t.inside)?;
+    show::labelled(rt, b"). Pairs proved apart: ", t.apart)?;
+    show::text(rt, b".\n")?;
     if t.refused > 0 {
-        show::labelled(b"Pairs that the kernel refused: ", t.refused);
-        show::text(b".\n");
+        show::labelled(rt, b"Pairs that the kernel refused: ", t.refused)?;
+        show::text(rt, b".\n")?;
     }
+    Ok(())
 }
 
 // What was read, and how much of the table it takes.
-pub fn show_sizes(rules: usize, measures: usize, switches: usize, used: Checked) {
-    show::labelled(b"rules: ", rules as u64);
-    show::labelled(b", measures: ", measures as u64);
-    show::labelled(b", switches: ", switches as u64);
-    show::labelled(b"; table: ", used.nodes as u64);
-    show::labelled(b" of 4096 nodes, ", used.edges as u64);
-    show::text(b" of 16384 edges\n");
+pub fn show_sizes(
+    rt: &impl Print,
+    rules: usize,
+    measures: usize,
+    switches: usize,
+    used: Checked,
+) -> io::Result<()> {
+    show::labelled(rt, b"rules: ", rules as u64)?;
+    show::labelled(rt, b", measures: ", measures as u64)?;
+    show::labelled(rt, b", switches: ", switches as u64)?;
+    show::labelled(rt, b"; table: ", used.nodes as u64)?;
+    show::labelled(rt, b" of 4096 nodes, ", used.edges as u64)?;
+    show::text(rt, b" of 16384 edges\n")
 }
 
 // The report, findings first, or where all is asked for every pair and every rule. Returns how many pairs are what.
 pub fn show_report(
+    rt: &impl Print,
     text: &[u8],
     nodes: &mut [u32],
     children: &mut [u32],
@@ -265,12 +312,12 @@ pub fn show_report(
     count: usize,
     width: usize,
     all: bool,
-) -> Tally {
-    show_heading(width);
+) -> io::Result<Tally> {
+    show_heading(rt, width)?;
     let t = all_pairs(
-        text, nodes, children, cuts, index, memo, rules, count, width, all,
-    );
-    show_rules(text, rules, count, width, all);
-    show_tally(t);
-    t
+        rt, text, nodes, children, cuts, index, memo, rules, count, width, all,
+    )?;
+    show_rules(rt, text, rules, count, width, all)?;
+    show_tally(rt, t)?;
+    Ok(t)
 }

@@ -13,7 +13,7 @@ use table::told::DONE;
 
 // A condition as far as it was read: what the terms since the last `or` say together, what stands before that `or`, and whether more
 // follows. Or why it could not be read, and the position where. When no more follows, all of it is in `any`.
-#[derive(Drop)]
+#[derive(Clone, Copy)]
 pub struct Partial {
     pub at: usize,
     pub all: NodeId,
@@ -23,14 +23,14 @@ pub struct Partial {
 }
 
 // A condition with the word behind a term read, and whether that word closes what `and` joined.
-#[derive(Drop)]
+#[derive(Clone, Copy)]
 struct Joint {
     c: Partial,
     closes: bool,
 }
 
 // What a term is about: a variable, and whether `not` stands before it. Or why there is none, and where.
-#[derive(Drop)]
+#[derive(Clone, Copy)]
 struct Subject {
     word: Word,
     v: usize,
@@ -39,7 +39,7 @@ struct Subject {
 }
 
 // One of the six comparisons, or none.
-#[derive(Drop)]
+#[derive(Clone, Copy)]
 enum Sign {
     Is(Comparison),
     Nothing,

@@ -32,7 +32,7 @@ const IN_NUMBERS: u8 = 194;
 const NEAR: u8 = 127;
 
 // The bytes from the first to the one before the end; none where both are the same, as at the end of each line.
-#[derive(Drop)]
+#[derive(Clone, Copy)]
 pub struct Word {
     pub start: usize,
     pub end: usize,
@@ -146,5 +146,5 @@ pub fn bytes_of(text: &[u8], w: Word) -> &[u8] {
 
 // Whether the word is this one.
 pub fn reads(text: &[u8], w: Word, name: &[u8]) -> bool {
-    check::same(bytes_of(text, w), name)
+    bytes_of(text, w) == name
 }

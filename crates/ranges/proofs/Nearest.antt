@@ -2,7 +2,7 @@
 use mathlib.Core.Path.{◌≡◌, refl, sym, ◌∙◌}
 use mathlib.Core.Bool.{Bool, true, false, cond, and-eq-true_iff, false≢true}
 use mathlib.Core.Logic.{◌↔◌}
-use Prim.Native.Nat.{ℕ, ◌-◌, ◌≤◌, min, max}
+use Prim.Native.Nat.{ℕ, ◌≤◌, min, max}
 use native.Mathlib.Omega.{arith}
 use lib.Dec.{leb, ltb}
 use lib.IntN.{ℤ}

@@ -6,9 +6,11 @@ use super::output::put;
 use super::questions::asked;
 use super::reading::State;
 use super::showing::show;
+use std::io;
 
 // A line, given the words that are lent. It answers how many bytes wait to be written then.
 fn answer(
+    rt: &impl Print,
     nodes: &mut [u32],
     children: &mut [u32],
     cuts: &mut [i64],
@@ -18,9 +20,9 @@ fn answer(
     out: &mut [u8],
     waiting: usize,
     line: Line,
-) -> usize {
+) -> io::Result<usize> {
     let letter = line.letter;
-    match letter {
+    Ok(match letter {
         EMPTY | COMMENT => waiting,
         b'q' => {
             set_place(places, line);
@@ -30,17 +32,18 @@ fn answer(
             set_word(nodes, children, cuts, index, memo, line);
             waiting
         }
-        b's' => show(nodes, children, cuts, index, memo, out, waiting),
+        b's' => show(rt, nodes, children, cuts, index, memo, out, waiting)?,
         _ => {
             let r = ask(nodes, children, cuts, index, memo, places, asked(line));
-            let w = put_reply(out, waiting, r);
-            put(out, w, b'\n')
+            let w = put_reply(rt, out, waiting, r)?;
+            put(rt, out, w, b'\n')?
         }
-    }
+    })
 }
 
 // A line, given all words that are held: fewer of them are lent, or all.
 pub fn end_line(
+    rt: &impl Print,
     nodes: &mut [u32],
     children: &mut [u32],
     cuts: &mut [i64],
@@ -49,12 +52,12 @@ pub fn end_line(
     places: &mut [i64],
     out: &mut [u8],
     mut s: State,
-) -> State {
+) -> io::Result<State> {
     let line = s.line;
     if line.letter == b'l' {
         let all = lend(nodes, children, cuts, index, memo, line);
         s.lent = all;
-        return s;
+        return Ok(s);
     }
     let lent = s.lent;
     let n = least(lent.nodes, nodes.len());
@@ -63,6 +66,7 @@ pub fn end_line(
     let i = least(lent.index, index.len());
     let m = least(lent.memo, memo.len());
     let waiting = answer(
+        rt,
         &mut nodes[0..n],
         &mut children[0..c],
         &mut cuts[0..z],
@@ -72,7 +76,7 @@ pub fn end_line(
         out,
         s.waiting,
         line,
-    );
+    )?;
     s.waiting = waiting;
-    s
+    Ok(s)
 }

@@ -7,11 +7,12 @@ use kernel::changes_calls::{narrow, restrict, widen};
 use kernel::conditions_calls::{from_bool, from_comparison, from_range};
 use kernel::disjointness_calls::is_disjoint;
 use kernel::joins_calls::{and, or};
+use std::io;
 use table::calls::{check, evaluate, fresh};
 use table::told::{Checked, Told};
 
 // What a call answered.
-#[derive(Drop)]
+#[derive(Clone, Copy)]
 pub enum Reply {
     Checks(Checked),
     Freshens(u32),
@@ -91,26 +92,32 @@ pub fn ask(
 }
 
 // Two numbers with a space between.
-fn put_pair(out: &mut [u8], waiting: usize, first: u32, second: u64) -> usize {
-    let w = put_number(out, waiting, first as u64);
-    let w = put(out, w, b' ');
-    put_number(out, w, second)
+fn put_pair(
+    rt: &impl Print,
+    out: &mut [u8],
+    waiting: usize,
+    first: u32,
+    second: u64,
+) -> io::Result<usize> {
+    let w = put_number(rt, out, waiting, first as u64)?;
+    let w = put(rt, out, w, b' ')?;
+    put_number(rt, out, w, second)
 }
 
 // What a call answered, without the end of the line.
-pub fn put_reply(out: &mut [u8], waiting: usize, r: Reply) -> usize {
-    match r {
+pub fn put_reply(rt: &impl Print, out: &mut [u8], waiting: usize, r: Reply) -> io::Result<usize> {
+    Ok(match r {
         Reply::Checks(c) => {
-            let w = put_pair(out, waiting, c.number, c.nodes as u64);
-            let w = put(out, w, b' ');
-            put_number(out, w, c.edges as u64)
+            let w = put_pair(rt, out, waiting, c.number, c.nodes as u64)?;
+            let w = put(rt, out, w, b' ')?;
+            put_number(rt, out, w, c.edges as u64)?
         }
-        Reply::Freshens(number) => put_number(out, waiting, number as u64),
-        Reply::Tells(t) => put_pair(out, waiting, t.number, if t.yes { 1 } else { 0 }),
+        Reply::Freshens(number) => put_number(rt, out, waiting, number as u64)?,
+        Reply::Tells(t) => put_pair(rt, out, waiting, t.number, if t.yes { 1 } else { 0 })?,
         Reply::Makes(a) => {
             let id = a.id;
-            put_pair(out, waiting, a.number, id.0 as u64)
+            put_pair(rt, out, waiting, a.number, id.0 as u64)?
         }
-        Reply::Unknown => put(out, waiting, b'?'),
-    }
+        Reply::Unknown => put(rt, out, waiting, b'?')?,
+    })
 }

@@ -7,7 +7,7 @@ use table::fresh::{zero_cuts, zero_words};
 use table::words::wide;
 
 // How many words of each slice are lent; more than are held stand for all.
-#[derive(Drop)]
+#[derive(Clone, Copy)]
 pub struct Lent {
     pub nodes: usize,
     pub children: usize,

@@ -13,7 +13,7 @@ const WRONG: u8 = b'?';
 // The most numbers that an operation takes. Those behind them are read and dropped.
 const MOST: usize = 6;
 
-#[derive(Drop)]
+#[derive(Clone, Copy)]
 pub struct Line {
     pub letter: u8,
     pub numbers: [Number; 6],

@@ -3,6 +3,8 @@
 
 #![tactic(auto)]
 
+use std::io;
+
 mod answering;
 mod asking;
 mod lending;
@@ -29,21 +31,25 @@ const INDEX: usize = INDEX_WORDS * (MOST_NODES + 1);
 
 const MEMO: usize = MEMO_WORDS * (MOST_NODES + 1);
 
+// Bytes read or written at once.
+const BUFFER: usize = 65536;
+
 // A proved loop has to end, and nothing says that the input does. So the lines are counted down, from a number that no run uses up.
-fn main() {
+fn main(rt: HostRuntime) -> io::Result<()> {
     let mut nodes = [0u32; NODES];
     let mut children = [0u32; EDGES];
     let mut cuts = [0i64; EDGES];
     let mut index = [0u32; INDEX];
     let mut memo = [0u64; MEMO];
     let mut places = [0i64; FIRST_BOOLEAN];
-    let mut input = io::large_buffer();
-    let mut out = io::large_buffer();
+    let mut input = [0u8; BUFFER];
+    let mut out = [0u8; BUFFER];
     let mut s = State::START;
     let mut lines = u64::MAX;
     while lines > 0 && s.open {
-        let read = read_line(&mut input, &out, s);
+        let read = read_line(&rt, &mut input, &out, s)?;
         s = end_line(
+            &rt,
             &mut nodes,
             &mut children,
             &mut cuts,
@@ -52,8 +58,8 @@ fn main() {
             &mut places,
             &mut out,
             read,
-        );
+        )?;
         lines -= 1;
     }
-    flush(&out, s.waiting);
+    flush(&rt, &out, s.waiting)
 }

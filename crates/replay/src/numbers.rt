@@ -6,7 +6,7 @@ const LIMIT: u64 = 9223372036854775808;
 const KEY_LIMIT: u64 = 2147483648;
 
 // A sign, and the digits behind it.
-#[derive(Drop)]
+#[derive(Clone, Copy)]
 pub struct Number {
     pub minus: bool,
     pub size: u64,

@@ -1,43 +1,45 @@
 // What waits to be written: the first so many bytes of a buffer. The functions answer how many wait when they are done.
 use super::numbers::size_of;
-use libc::STDOUT_FILENO;
+use std::io;
+use std::io::Write;
 
 // Writes what waits.
-pub fn flush(out: &[u8], waiting: usize) {
+pub fn flush(rt: &impl Print, out: &[u8], waiting: usize) -> io::Result<()> {
     if waiting <= out.len() {
-        io::write_all(STDOUT_FILENO, &out[0..waiting]);
+        io::writer(rt).write_all(&out[0..waiting])?;
     }
+    Ok(())
 }
 
 // One byte more. A full buffer is written first.
-pub fn put(out: &mut [u8], waiting: usize, byte: u8) -> usize {
+pub fn put(rt: &impl Print, out: &mut [u8], waiting: usize, byte: u8) -> io::Result<usize> {
     if waiting < out.len() {
         out[waiting] = byte;
-        return waiting + 1;
+        return Ok(waiting + 1);
     }
-    flush(out, waiting);
+    flush(rt, out, waiting)?;
     if 0 < out.len() {
         out[0] = byte;
-        return 1;
+        return Ok(1);
     }
-    0
+    Ok(0)
 }
 
 // The decimal digits of a number: those before the last one, and the last one.
-pub fn put_number(out: &mut [u8], waiting: usize, n: u64) -> usize {
+pub fn put_number(rt: &impl Print, out: &mut [u8], waiting: usize, n: u64) -> io::Result<usize> {
     let digit = b'0' + (n % 10) as u8;
     if n < 10 {
-        return put(out, waiting, digit);
+        return put(rt, out, waiting, digit);
     }
-    let w = put_number(out, waiting, n / 10);
-    put(out, w, digit)
+    let w = put_number(rt, out, waiting, n / 10)?;
+    put(rt, out, w, digit)
 }
 
 // The same of a number that may be below 0.
-pub fn put_signed(out: &mut [u8], waiting: usize, n: i64) -> usize {
+pub fn put_signed(rt: &impl Print, out: &mut [u8], waiting: usize, n: i64) -> io::Result<usize> {
     if n < 0 {
-        let w = put(out, waiting, b'-');
-        return put_number(out, w, size_of(n));
+        let w = put(rt, out, waiting, b'-')?;
+        return put_number(rt, out, w, size_of(n));
     }
-    put_number(out, waiting, size_of(n))
+    put_number(rt, out, waiting, size_of(n))
 }

@@ -4,7 +4,7 @@ use super::numbers::Number;
 use ranges::bounds::{Bound, Comparison};
 
 // A letter, and what its numbers are to each call that could take them.
-#[derive(Drop)]
+#[derive(Clone, Copy)]
 pub struct Question {
     pub letter: u8,
     // The first number: an id, a variable, or the bits of the booleans. The second: an id or a variable. The third: a value.

@@ -2,13 +2,14 @@
 use super::lending::Lent;
 use super::line::Line;
 use super::output::flush;
-use libc::STDIN_FILENO;
+use std::io;
+use std::io::Read;
 
 // What ends a line.
 const END: u8 = b'\n';
 
 // What is kept from line to line beside the slices. `waiting` and `lent` are here since one struct can be handed on and back, and two not.
-#[derive(Drop)]
+#[derive(Clone, Copy)]
 pub struct State {
     // The line so far, and whether it has ended.
     pub line: Line,
@@ -35,49 +36,64 @@ impl State {
 }
 
 // Reads more. What waits is written before: whoever is to send the next lines may be waiting for it. The end of the input ends the line.
-fn refill(input: &mut [u8], out: &[u8], mut s: State) -> State {
-    flush(out, s.waiting);
-    let got = libc::read(STDIN_FILENO, input);
-    let n = io::count(got, input);
+fn refill(
+    rt: &(impl Print + Input),
+    input: &mut [u8],
+    out: &[u8],
+    mut s: State,
+) -> io::Result<State> {
+    flush(rt, out, s.waiting)?;
+    // A failed read is taken as the end of the input.
+    let n = rt.reader().read(input).unwrap_or(0);
     s.at = 0;
     s.count = n;
     s.waiting = 0;
     s.open = n > 0;
     s.ended = n == 0;
-    s
+    Ok(s)
 }
 
 // The next byte, or a refill where there is none left.
-fn step(input: &mut [u8], out: &[u8], mut s: State) -> State {
+fn step(
+    rt: &(impl Print + Input),
+    input: &mut [u8],
+    out: &[u8],
+    mut s: State,
+) -> io::Result<State> {
     let at = s.at;
     if at >= s.count {
-        return refill(input, out, s);
+        return refill(rt, input, out, s);
     }
     if at >= input.len() {
-        return refill(input, out, s);
+        return refill(rt, input, out, s);
     }
     let byte = input[at];
     s.at = at + 1;
     if byte == END {
         s.ended = true;
-        return s;
+        return Ok(s);
     }
     let line = s.line;
     let longer = line.with(byte);
     s.line = longer;
-    s
+    Ok(s)
 }
 
 // The next line. Its bytes are counted down, as a proved loop has to end.
-pub fn read_line(input: &mut [u8], out: &[u8], before: State) -> State {
+pub fn read_line(
+    rt: &(impl Print + Input),
+    input: &mut [u8],
+    out: &[u8],
+    before: State,
+) -> io::Result<State> {
     let mut s = before;
     let none = Line::NONE;
     s.line = none;
     s.ended = false;
     let mut bytes = u64::MAX;
     while bytes > 0 && !s.ended {
-        s = step(input, out, s);
+        s = step(rt, input, out, s)?;
         bytes -= 1;
     }
-    s
+    Ok(s)
 }

@@ -7,7 +7,6 @@ use Rattle.diagram.specs.Sound.{Child}
 use Rattle.algebra.specs.Overlay.{overlay}
 use Rattle.algebra.specs.Conjunction.{walk_in, create_over}
 use Rattle.table.specs.Layout.{room, MemoLengths, Store}
-use Rattle.making.specs.declared.edges.Edges as built
 use Rattle.making.specs.declared.nodes.Used.{Used}
 use Rattle.making.specs.declared.nodes.Made.{Made}
 use Rattle.making.specs.Outcome.{Lent, Outcome, Untouched, Creates, TakenBack, table_of}

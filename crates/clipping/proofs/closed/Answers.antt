@@ -1,7 +1,6 @@
 use mathlib.Core.Path.{refl}
 use native.Mathlib.Omega.{arith}
 use Rattle.clipping.proofs.Closing.{closed_over, closed_in}
-use Rattle.std.proofs.Common.{rules}
 use Rattle.clipping.proofs.closed.Goals as goal
 
 pub returns-then-n-ge-MOST_EDGES : goal.returns-then-n-ge-MOST_EDGES

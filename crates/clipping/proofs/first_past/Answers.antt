@@ -1,7 +1,5 @@
-use Prim.Native.Nat.{◌-◌}
 use native.Mathlib.Omega.{arith}
-use Rattle.clipping.proofs.Passing.{Passing, pass_none, pass_next, pass_done}
-use Rattle.std.proofs.Common.{rules}
+use Rattle.clipping.proofs.Passing.{pass_next, pass_done}
 use Rattle.clipping.proofs.first_past.Goals as goal
 
 pub loop-a-preserved : goal.loop-a-preserved

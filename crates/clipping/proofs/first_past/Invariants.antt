@@ -1,7 +1,5 @@
 use Prim.Native.Nat.{◌-◌}
-use native.Mathlib.Omega.{arith}
-use Rattle.clipping.proofs.Passing.{Passing, pass_none, pass_next, pass_done}
-use Rattle.std.proofs.Common.{rules}
+use Rattle.clipping.proofs.Passing.{Passing}
 use Rattle.clipping.proofs.first_past.Given as goal
 
 -- `first_past` meets its contract. Assumes nothing.

@@ -1,10 +1,5 @@
-use mathlib.Core.Path.{sym, ◌∙◌, ap}
 use Prim.Native.Nat.{◌-◌}
-use native.Mathlib.Omega.{arith}
-use Rattle.algebra.specs.Changing.{cut_above}
-use Rattle.views.proofs.Sights.{inside_wider}
-use Rattle.clipping.proofs.Copying.{Copying, copy_none, slot_free, copy_next, copied}
-use Rattle.std.proofs.Common.{rules}
+use Rattle.clipping.proofs.Copying.{Copying}
 use Rattle.clipping.proofs.narrowed.Given as goal
 
 -- `narrowed` meets its contract. Assumes nothing.

@@ -1,10 +1,8 @@
 use mathlib.Core.Path.{refl}
-use Prim.Native.Nat.{◌+◌, ◌-◌}
+use Prim.Native.Nat.{◌+◌}
 use native.Mathlib.Omega.{arith}
-use Rattle.views.proofs.Sights.{inside_wider}
 use Rattle.clipping.proofs.Closing.{clips_over}
-use Rattle.clipping.proofs.Widening.{Widening, widen_none, widen_over, widen_next, widen_gathered, widen_closed, widened_wanted}
-use Rattle.std.proofs.Common.{rules}
+use Rattle.clipping.proofs.Widening.{widen_none, widen_over, widen_next, widen_closed, widened_wanted}
 use Rattle.clipping.proofs.widened.Goals as goal
 
 pub loop-more-init : goal.loop-more-init

@@ -1,10 +1,5 @@
-use mathlib.Core.Path.{refl}
-use Prim.Native.Nat.{◌+◌, ◌-◌}
-use native.Mathlib.Omega.{arith}
-use Rattle.views.proofs.Sights.{inside_wider}
-use Rattle.clipping.proofs.Closing.{clips_over}
-use Rattle.clipping.proofs.Widening.{Widening, widen_none, widen_over, widen_next, widen_gathered, widen_closed, widened_wanted}
-use Rattle.std.proofs.Common.{rules}
+use Prim.Native.Nat.{◌-◌}
+use Rattle.clipping.proofs.Widening.{Widening}
 use Rattle.clipping.proofs.widened.Given as goal
 
 -- `widened` meets its contract. Assumes nothing.

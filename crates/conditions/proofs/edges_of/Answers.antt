@@ -1,9 +1,8 @@
 use mathlib.Core.Path.{◌∙◌}
-use mathlib.Core.Logic.{⊎_elim, inl, inr}
+use mathlib.Core.Logic.{inl, inr}
 use native.Mathlib.Omega.{arith}
 use Rattle.ranges.specs.Line.{top}
 use Rattle.conditions.proofs.Shapes.{empty_range, from_lowest, from_higher}
-use Rattle.std.proofs.Common.{rules}
 use Rattle.conditions.proofs.edges_of.Goals as goal
 use Rattle.conditions.proofs.edges_of.Goals.{then-r-lt-TOP, else-r-lt-TOP}
 

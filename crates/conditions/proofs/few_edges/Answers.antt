@@ -1,5 +1,4 @@
 use Rattle.conditions.proofs.Shapes.{few_stored}
-use Rattle.std.proofs.Common.{rules}
 use Rattle.conditions.proofs.few_edges.Goals as goal
 
 -- `conditions::few_edges` meets its contract: three stores. Assumes nothing.

@@ -1,7 +1,6 @@
 use mathlib.Core.Bool.{true, false}
 use Rattle.algebra.specs.Conditions.{from_bool}
 use Rattle.algebra.proofs.Conditioning.{child_terminal}
-use Rattle.std.proofs.Common.{rules}
 use Rattle.conditions.proofs.from_bool.Goals as goal
 
 -- `conditions::from_bool` meets its contract: `create_pair` on TRUE and FALSE. Assumes nothing.

@@ -1,6 +1,4 @@
-use mathlib.Core.Logic.{⊎_elim}
 use Rattle.conditions.proofs.Wanted.{key_handed, inside_wanted, outside_wanted, full_wanted}
-use Rattle.std.proofs.Common.{rules}
 use Rattle.conditions.proofs.from_comparison.Goals as goal
 use Rattle.conditions.proofs.from_comparison.Goals.{else-compared-via-then-compared+else-made, else-compared-via-else-compared}
 
@@ -12,6 +10,6 @@ pub returns : goal.returns
 returns c =
     let k = key_handed c.ranges.key c.from_comparison-compared.ensures in
     elim c.else-compared.branch [
-        else-compared-via-then-compared+else-made w ↦ full_wanted _ _ k c.within-made.ensures w.if-made.false
-        | else-compared-via-else-compared w ↦ inside_wanted _ _ k c.within-made.ensures w.if-compared.false
+      | else-compared-via-then-compared+else-made w ↦ full_wanted _ _ k c.within-made.ensures w.if-made.false
+      | else-compared-via-else-compared w ↦ inside_wanted _ _ k c.within-made.ensures w.if-compared.false
     ]

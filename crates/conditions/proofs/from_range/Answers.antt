@@ -1,5 +1,4 @@
 use Rattle.conditions.proofs.Wanted.{range_wanted, creates_equal_want}
-use Rattle.std.proofs.Common.{rules}
 use Rattle.conditions.proofs.from_range.Goals as goal
 
 -- `conditions::from_range` meets its contract. Assumes nothing.

@@ -1,5 +1,4 @@
 use Rattle.conditions.proofs.Wanted.{range_buildable, range_settles, creates_equal_want}
-use Rattle.std.proofs.Common.{rules}
 use Rattle.conditions.proofs.within.Goals as goal
 
 -- `conditions::within` meets its contract: `settle` on the edges of the range. Assumes nothing.

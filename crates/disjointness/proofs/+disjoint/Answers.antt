@@ -1,15 +1,10 @@
-use mathlib.Core.Path.{◌≡◌, refl, sym, ◌∙◌}
-use mathlib.Core.Bool.{true}
-use mathlib.Core.Logic.{inl, ⊎_elim}
-use Prim.Native.Nat.{ℕ, ◌+◌, ◌-◌, ◌*◌, ◌<◌}
+use mathlib.Core.Path.{refl, ◌∙◌}
+use mathlib.Core.Logic.{inl}
 use native.Mathlib.Omega.{arith}
 use borrow.Author.Tests.{not-false, not-true}
-use Rattle.table.specs.Layout.{store}
-use Rattle.disjointness.specs.Asking.{whole}
-use Rattle.disjointness.proofs.Walks.{children_asked, cuts_inside, Walked, Turned, turned_at, Beside, beside_at, walk_starts, walk_no, walk_left, walk_right, walk_both}
+use Rattle.disjointness.proofs.Walks.{children_asked, turned_at, beside_at, walk_no, walk_left, walk_right, walk_both}
 use Rattle.disjointness.proofs.Pairs.{high_no, high_yes}
-use Rattle.disjointness.proofs.Opening.{even_no, gave_up, sure_no, some_ahead, left_inside, right_inside, opening_yes, opening_no, ids_small, recalled_yes, noted_listed, left_node, right_node, variable_known, sides_asked, sides_answer, range_sides, range_answer, bool_sides, bool_answer}
-use Rattle.std.proofs.Common.{rules}
+use Rattle.disjointness.proofs.Opening.{even_no, sure_no, some_ahead, opening_yes, opening_no, ids_small, recalled_yes, noted_listed, left_node, right_node, variable_known, sides_asked, sides_answer, range_sides, range_answer, bool_sides, bool_answer}
 use Rattle.disjointness.proofs.+disjoint.Goals as goal
 use Rattle.disjointness.proofs.+disjoint.Goals.{ranges_disjoint-else-loop-j-test, ranges_disjoint-then-loop-j-test+else-not-t+then-k-l, ranges_disjoint-then-loop-j-test+else-not-t+else-k-l+then-k-l-2}
 
@@ -75,16 +70,16 @@ ranges_disjoint-loop-j-preserved t c = (c.loop-j.invariant.0, record { here = wa
 
 pub ranges_disjoint-left-preserved : goal.ranges_disjoint-left-preserved
 ranges_disjoint-left-preserved t c = (
-    c.loop-j.invariant.0,
-    elim c.loop-j-test.branch [
-        ranges_disjoint-else-loop-j-test w ↦ absurd (omega (arith, w.loop-j-test.false, c.loop-j.invariant.1.here.inside))
-        | ranges_disjoint-then-loop-j-test+else-not-t+then-k-l w ↦
-            beside_at _ w.noted-is w.more-is w.ids_disjoint-t.ensures.listed (w.ids_disjoint-t.auto.noted ∙ (c.loop-j.invariant.1.long ∙ c.left.invariant.1.long)) (λ l. w.ids_disjoint-t.ensures.stays l ∙ c.loop-j.invariant.1.stays (omega (arith, l, w.ids_disjoint-t.auto.noted)))
-            (turned_at w.j-is (walk_left c.requires c.left-test.true c.loop-j.invariant.1.here c.child-x.ensures w.child-y.ensures (w.ids_disjoint-t.ensures.right (inl (not-false _ w.if-not-t.false))) (not-false _ w.if-not-t.false) c.cut-k.ensures w.cut-l.ensures w.if-k-l.true))
-        | ranges_disjoint-then-loop-j-test+else-not-t+else-k-l+then-k-l-2 w ↦
-            beside_at _ w.noted-is w.more-is w.ids_disjoint-t.ensures.listed (w.ids_disjoint-t.auto.noted ∙ (c.loop-j.invariant.1.long ∙ c.left.invariant.1.long)) (λ l. w.ids_disjoint-t.ensures.stays l ∙ c.loop-j.invariant.1.stays (omega (arith, l, w.ids_disjoint-t.auto.noted)))
-            (turned_at w.j-is (walk_both c.requires c.left-test.true c.loop-j.invariant.1.here c.child-x.ensures w.child-y.ensures (w.ids_disjoint-t.ensures.right (inl (not-false _ w.if-not-t.false))) (not-false _ w.if-not-t.false) c.cut-k.ensures w.cut-l.ensures w.if-k-l-2.true))
-    ],
+  c.loop-j.invariant.0,
+  elim c.loop-j-test.branch [
+    | ranges_disjoint-else-loop-j-test w ↦ absurd (omega (arith, w.loop-j-test.false, c.loop-j.invariant.1.here.inside))
+    | ranges_disjoint-then-loop-j-test+else-not-t+then-k-l w ↦
+        beside_at _ w.noted-is w.more-is w.ids_disjoint-t.ensures.listed (w.ids_disjoint-t.auto.noted ∙ (c.loop-j.invariant.1.long ∙ c.left.invariant.1.long)) (λ l. w.ids_disjoint-t.ensures.stays l ∙ c.loop-j.invariant.1.stays (omega (arith, l, w.ids_disjoint-t.auto.noted)))
+        (turned_at w.j-is (walk_left c.requires c.left-test.true c.loop-j.invariant.1.here c.child-x.ensures w.child-y.ensures (w.ids_disjoint-t.ensures.right (inl (not-false _ w.if-not-t.false))) (not-false _ w.if-not-t.false) c.cut-k.ensures w.cut-l.ensures w.if-k-l.true))
+    | ranges_disjoint-then-loop-j-test+else-not-t+else-k-l+then-k-l-2 w ↦
+        beside_at _ w.noted-is w.more-is w.ids_disjoint-t.ensures.listed (w.ids_disjoint-t.auto.noted ∙ (c.loop-j.invariant.1.long ∙ c.left.invariant.1.long)) (λ l. w.ids_disjoint-t.ensures.stays l ∙ c.loop-j.invariant.1.stays (omega (arith, l, w.ids_disjoint-t.auto.noted)))
+        (turned_at w.j-is (walk_both c.requires c.left-test.true c.loop-j.invariant.1.here c.child-x.ensures w.child-y.ensures (w.ids_disjoint-t.ensures.right (inl (not-false _ w.if-not-t.false))) (not-false _ w.if-not-t.false) c.cut-k.ensures w.cut-l.ensures w.if-k-l-2.true))
+  ],
 )
 
 pub ranges_disjoint-returns-then-not-t : goal.ranges_disjoint-returns-then-not-t

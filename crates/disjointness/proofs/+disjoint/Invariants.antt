@@ -1,14 +1,9 @@
-use mathlib.Core.Path.{◌≡◌, refl, sym, ◌∙◌}
+use mathlib.Core.Path.{◌≡◌}
 use mathlib.Core.Bool.{true}
-use mathlib.Core.Logic.{inl, ⊎_elim}
-use Prim.Native.Nat.{ℕ, ◌+◌, ◌-◌, ◌*◌, ◌<◌}
-use native.Mathlib.Omega.{arith}
-use borrow.Author.Tests.{not-false, not-true}
+use Prim.Native.Nat.{◌+◌, ◌-◌, ◌*◌}
 use Rattle.table.specs.Layout.{store}
 use Rattle.disjointness.specs.Asking.{whole}
-use Rattle.disjointness.proofs.Walks.{children_asked, cuts_inside, Walked, Turned, turned_at, Beside, beside_at, walk_starts, walk_no, walk_left, walk_right, walk_both}
-use Rattle.disjointness.proofs.Pairs.{high_no, high_yes}
-use Rattle.disjointness.proofs.Opening.{even_no, gave_up, sure_no, some_ahead, left_inside, right_inside, opening_yes, opening_no, ids_small, recalled_yes, noted_listed, left_node, right_node, variable_known, sides_asked, sides_answer, range_sides, range_answer, bool_sides, bool_answer}
+use Rattle.disjointness.proofs.Walks.{Walked, Turned, Beside}
 use Rattle.disjointness.proofs.+disjoint.Given as goal
 
 abbrev pub decreases-booleans_disjoint : goal.decreases-booleans_disjoint
@@ -37,4 +32,3 @@ invariant-ranges_disjoint-left l = (l.answer ≡ true) × Beside (store l.nodes 
 
 abbrev pub decreases-ranges_disjoint-left : goal.decreases-ranges_disjoint-left
 decreases-ranges_disjoint-left l = l.a.count - l.i
-

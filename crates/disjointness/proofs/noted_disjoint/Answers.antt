@@ -1,6 +1,5 @@
 use native.Mathlib.Omega.{arith}
-use Rattle.disjointness.proofs.Whole.{zeroed_asked, noting_answer}
-use Rattle.std.proofs.Common.{rules}
+use Rattle.disjointness.proofs.Whole.{zeroed_asked}
 use Rattle.disjointness.proofs.noted_disjoint.Goals as goal
 
 -- `noted_disjoint` meets its contract: its walk goes to the end. Assumes nothing.

@@ -1,12 +1,7 @@
-use mathlib.Core.Path.{◌≡◌, refl, ◌∙◌}
+use mathlib.Core.Path.{◌≡◌}
 use Prim.Native.Nat.{ℕ, ◌-◌, ◌≤◌}
-use native.Mathlib.Omega.{arith}
-use lib.ListN.{length, get_or, length-set}
-use Rattle.table.proofs.Zeroed.{Filled, filled_next, filled_all}
-use mathlib.Core.Logic.{⊎_elim}
-use lib.Seq.{get_or-set_other}
-use Rattle.table.proofs.Laws.{lt_or_le}
-use Rattle.std.proofs.Common.{rules}
+use lib.ListN.{length, get_or}
+use Rattle.table.proofs.Zeroed.{Filled}
 use Rattle.memo.proofs.clear.Given as goal
 
 -- `clear` zeroes the sets in use; behind them lies nothing. Assumes nothing.

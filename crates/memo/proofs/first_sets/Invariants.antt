@@ -1,6 +1,4 @@
-use Prim.Native.Nat.{◌-◌, ◌≤◌}
-use native.Mathlib.Omega.{arith}
-use Rattle.std.proofs.Common.{rules}
+use Prim.Native.Nat.{◌≤◌}
 use Rattle.memo.proofs.first_sets.Given as goal
 
 -- `first_sets` divides by four, and 33 is more than four. Assumes nothing.

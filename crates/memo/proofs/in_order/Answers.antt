@@ -1,5 +1,4 @@
 use Rattle.memo.specs.Recalling.{as_given, turned}
-use Rattle.std.proofs.Common.{rules}
 use Rattle.memo.proofs.in_order.Goals as goal
 
 -- `in_order` meets its contract. Assumes nothing.

@@ -1,10 +1,6 @@
-use mathlib.Core.Path.{refl, sym, subst}
 use Prim.Native.Nat.{◌-◌, ◌≤◌}
-use native.Mathlib.Omega.{arith}
-use mathlib.Core.Logic.{inl, inr, ⊎_elim}
 use lib.ListN.{length}
 use Rattle.memo.specs.Recalling.{Found}
-use Rattle.std.proofs.Common.{rules}
 use Rattle.memo.proofs.matching.Given as goal
 
 -- `matching` keeps a word that it has read. Assumes nothing.

@@ -1,7 +1,4 @@
-use mathlib.Core.Path.{◌∙◌}
-use lib.ListN.{length-set}
-use Rattle.memo.proofs.Recalled.{kept_same, put_long, moved_kept}
-use Rattle.std.proofs.Common.{rules}
+use Rattle.memo.proofs.Recalled.{kept_same, moved_kept}
 use Rattle.memo.proofs.move_word.Goals as goal
 
 -- `move_word` takes a word out and writes it elsewhere. Assumes nothing.

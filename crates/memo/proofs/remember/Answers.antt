@@ -1,6 +1,4 @@
-use native.Mathlib.Omega.{arith}
 use Rattle.memo.proofs.Recalled.{put_noted}
-use Rattle.std.proofs.Common.{rules}
 use Rattle.memo.proofs.remember.Goals as goal
 
 pub returns : goal.returns

@@ -1,8 +1,6 @@
 use mathlib.Core.Path.{◌∙◌}
 use native.Mathlib.Omega.{arith}
 use Rattle.memo.proofs.Recalled.{kept_same, headed_readied, framed_readied}
-use lib.ListN.{length-set}
-use Rattle.std.proofs.Common.{rules}
 use Rattle.memo.proofs.sets_for_one_more.Goals as goal
 
 pub returns-then-head-sets : goal.returns-then-head-sets

@@ -1,8 +1,5 @@
-use Prim.Native.Nat.{◌*◌, ◌≤◌}
 use native.Mathlib.Omega.{arith}
-use Rattle.memo.specs.Recalling.{Kept}
 use Rattle.memo.proofs.Recalled.{kept_same, kept_then_kept}
-use Rattle.std.proofs.Common.{rules}
 use Rattle.memo.proofs.spread.Goals as goal
 
 pub loop-left-init : goal.loop-left-init

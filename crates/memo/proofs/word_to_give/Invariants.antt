@@ -1,9 +1,6 @@
 use mathlib.Core.Path.{◌≡◌}
 use Prim.Native.Nat.{◌+◌, ◌-◌, ◌≤◌, ◌<◌}
-use native.Mathlib.Omega.{arith}
 use lib.ListN.{length}
-use mathlib.Core.Logic.{⊎_elim}
-use Rattle.std.proofs.Common.{rules}
 use Rattle.memo.proofs.word_to_give.Given as goal
 
 -- `word_to_give` stays behind the head and inside the set. Assumes nothing.

@@ -1,8 +1,6 @@
 use mathlib.Core.Path.{sym, ◌∙◌, ap}
-use native.Mathlib.Omega.{arith}
 use Rattle.ids.specs.Id.{sign, under}
-use Rattle.views.proofs.Sights.{one_more, child_seen_own, child_seen_kid}
-use Rattle.std.proofs.Common.{rules}
+use Rattle.views.proofs.Sights.{child_seen_own, child_seen_kid}
 use Rattle.views.proofs.child.Goals as goal
 
 -- `child` meets its contract. Assumes nothing.

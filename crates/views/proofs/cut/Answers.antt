@@ -1,7 +1,6 @@
 use mathlib.Core.Path.{sym, ◌∙◌}
 use native.Mathlib.Omega.{arith}
 use Rattle.views.proofs.Sights.{cut_seen_position}
-use Rattle.std.proofs.Common.{rules}
 use Rattle.views.proofs.cut.Goals as goal
 
 pub returns-then-j-w : goal.returns-then-j-w

@@ -1,9 +1,7 @@
 use Rattle.ranges.proofs.Ends.{held_keyed}
-use Rattle.views.proofs.Sights.{asked_of_all_known}
 use Rattle.walks.proofs.Composing.{stepped_equal_want}
-use Rattle.walks.proofs.Finished.{ready_zeroed, worked_when_finished, worked_adds_nothing}
+use Rattle.walks.proofs.Finished.{worked_when_finished, worked_adds_nothing}
 use Rattle.changes.proofs.Bounds.{narrow_bounded, narrow_all}
-use Rattle.std.proofs.Common.{rules}
 use Rattle.changes.proofs.narrowing.narrow.Goals as goal
 
 -- `narrowing::narrow` meets its contract: the id with both ends open, else `narrow_from` on an empty memo, and the end of an operation. Assumes nothing.

@@ -1,9 +1,8 @@
 use Rattle.ranges.proofs.Holds.{range_last_lt_first, range_first_le_last}
 use Rattle.walks.proofs.Composing.{outcome_adds_nothing, lent_readable}
-use Rattle.views.proofs.Sights.{record_inside, sees_views}
+use Rattle.views.proofs.Sights.{sees_views}
 use Rattle.changes.proofs.Ways.{is_variable}
-use Rattle.changes.proofs.Bottom.{view_inside, narrow_kept, narrow_emptied, narrow_buildable, narrow_settles, outcome_as}
-use Rattle.std.proofs.Common.{rules}
+use Rattle.changes.proofs.Bottom.{narrow_kept, narrow_emptied, narrow_buildable, narrow_settles, outcome_as}
 use Rattle.changes.proofs.narrowing.narrow_here.Goals as goal
 
 pub returns-then-a-eq1 : goal.returns-then-a-eq1

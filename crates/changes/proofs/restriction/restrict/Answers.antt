@@ -1,13 +1,10 @@
 use mathlib.Core.Path.{sym}
-use native.Mathlib.Omega.{arith}
 use borrow.Author.Tests.{lt-ltb, le-ltb}
 use Rattle.merging.proofs.Bottoms.{restrict_range_unchanged, restrict_is_change}
 use Rattle.making.specs.Outcome.{table_of}
-use Rattle.views.proofs.Sights.{asked_of_all_known}
 use Rattle.walks.proofs.Composing.{stepped_equal_want}
-use Rattle.walks.proofs.Finished.{ready_zeroed, worked_when_finished, worked_adds_nothing}
+use Rattle.walks.proofs.Finished.{worked_when_finished, worked_adds_nothing}
 use Rattle.table.specs.Layout.{store}
-use Rattle.std.proofs.Common.{rules}
 use Rattle.changes.proofs.restriction.restrict.Goals as goal
 
 -- `restriction::restrict` meets its contract: the id itself at a range variable, else `restrict_from` on an empty memo and the end of an

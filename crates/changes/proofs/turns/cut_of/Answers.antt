@@ -1,6 +1,5 @@
 use mathlib.Core.Path.{sym, ◌∙◌}
 use Rattle.views.proofs.Sights.{cut_seen_range, cut_seen_bool}
-use Rattle.std.proofs.Common.{rules}
 use Rattle.changes.proofs.turns.cut_of.Goals as goal
 
 -- `turns::cut_of` meets its contract. Assumes nothing.

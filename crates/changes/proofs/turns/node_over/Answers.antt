@@ -1,8 +1,4 @@
-use mathlib.Core.Path.{refl}
-use borrow.Author.Tests.{not-true, not-false}
-use Rattle.table.proofs.Laws.{not_false_and_true}
 use Rattle.changes.proofs.Gathering.{made_notes}
-use Rattle.std.proofs.Common.{rules}
 use Rattle.changes.proofs.turns.node_over.Goals as goal
 
 pub remember-requires : goal.remember-requires

@@ -1,10 +1,8 @@
 use Rattle.ranges.proofs.Ends.{held_keyed}
 use Rattle.ranges.proofs.Holds.{range_last_lt_first, range_first_le_last}
-use Rattle.views.proofs.Sights.{asked_of_all_known}
 use Rattle.walks.proofs.Composing.{stepped_equal_want}
-use Rattle.walks.proofs.Finished.{ready_zeroed, worked_when_finished, worked_adds_nothing}
+use Rattle.walks.proofs.Finished.{worked_when_finished, worked_adds_nothing}
 use Rattle.changes.proofs.Bounds.{widen_bounded, widen_all, widen_none}
-use Rattle.std.proofs.Common.{rules}
 use Rattle.changes.proofs.widening.widen.Goals as goal
 
 -- `widening::widen` meets its contract: the id with both ends open, FALSE by empty bounds, else `widen_from` on an empty memo, and the end of an operation. Assumes nothing.

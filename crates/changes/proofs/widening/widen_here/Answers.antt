@@ -1,9 +1,8 @@
 use borrow.Author.Tests.{not-true, not-false}
-use Rattle.views.proofs.Sights.{record_inside, sees_views}
+use Rattle.views.proofs.Sights.{sees_views}
 use Rattle.changes.proofs.Ways.{is_variable}
-use Rattle.changes.proofs.Bottom.{view_inside, widen_buildable, widen_settles, widen_full, outcome_as}
+use Rattle.changes.proofs.Bottom.{widen_buildable, widen_settles, widen_full, outcome_as}
 use Rattle.walks.proofs.Composing.{lent_readable}
-use Rattle.std.proofs.Common.{rules}
 use Rattle.changes.proofs.widening.widen_here.Goals as goal
 
 pub returns-then-not-c : goal.returns-then-not-c

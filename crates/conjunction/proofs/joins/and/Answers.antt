@@ -1,6 +1,4 @@
-use Rattle.views.proofs.Sights.{asked_of_all_known}
 use Rattle.walks.proofs.Finished.{worked_when_finished, recalled_when_finished}
-use Rattle.std.proofs.Common.{rules}
 use Rattle.conjunction.proofs.joins.and.Goals as goal
 
 pub returns : goal.returns

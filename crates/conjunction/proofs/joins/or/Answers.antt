@@ -1,7 +1,6 @@
 use Rattle.making.specs.Outcome.{table_of}
 use Rattle.conjunction.proofs.Whole.{or_joined}
 use Rattle.table.specs.Layout.{store}
-use Rattle.std.proofs.Common.{rules}
 use Rattle.conjunction.proofs.joins.or.Goals as goal
 
 -- `joins::or` meets its contract: `and` of the complements, complemented. Assumes nothing.

@@ -1,6 +1,5 @@
 use mathlib.Core.Path.{sym, ◌∙◌}
 use Rattle.conjunction.proofs.Opened.{settled_right, settled_left, settled_same, settled_opposed}
-use Rattle.std.proofs.Common.{rules}
 use Rattle.conjunction.proofs.opening.opened.Goals as goal
 
 -- `opening::opened` meets its contract. Assumes nothing.

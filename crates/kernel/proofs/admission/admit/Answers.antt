@@ -1,7 +1,5 @@
-use borrow.Author.Tests.{not-true, not-false}
 use Rattle.kernel.specs.Admitting.{not_lent}
 use Rattle.kernel.proofs.Admitted.{admits_not, admits_it}
-use Rattle.std.proofs.Common.{rules}
 use Rattle.kernel.proofs.admission.admit.Goals as goal
 
 -- `admission::admit` meets its contract. Assumes nothing.

@@ -1,11 +1,8 @@
-use native.Mathlib.Omega.{arith}
-use borrow.Author.Tests.{not-true, not-false}
 use Rattle.table.proofs.Laws.{decided_true, decided_false}
 use Rattle.kernel.specs.Admitting.{ids_not_long, ids_not_known}
 use Rattle.kernel.proofs.Admitted.{admitted_lent}
 use Rattle.kernel.proofs.Deciding.{asks_none}
 use Rattle.kernel.proofs.ByIds.{ids_refuse_table, ids_refuse_kind, ids_admit}
-use Rattle.std.proofs.Common.{rules}
 use Rattle.kernel.proofs.admission.admit_ids.Goals as goal
 
 -- `admission::admit_ids` meets its contract. Assumes nothing.

@@ -1,6 +1,5 @@
 use Rattle.table.proofs.Hearing.{known_when_true, unknown_when_false}
 use Rattle.kernel.proofs.Deciding.{decides_known, decides_second, decides_first}
-use Rattle.std.proofs.Common.{rules}
 use Rattle.kernel.proofs.admission.both_known.Goals as goal
 
 -- `admission::both_known` meets its contract. Assumes nothing.

@@ -1,8 +1,6 @@
 use native.Mathlib.Omega.{arith}
-use borrow.Author.Tests.{not-true, not-false}
 use Rattle.table.proofs.Laws.{decided_true, decided_false}
 use Rattle.kernel.proofs.Deciding.{not_below, decides_second, decides_first}
-use Rattle.std.proofs.Common.{rules}
 use Rattle.kernel.proofs.admission.is_boolean.Goals as goal
 
 -- `admission::is_boolean` meets its contract. Assumes nothing.

@@ -1,6 +1,5 @@
 use Rattle.diagram.specs.Table.{first_boolean}
 use Rattle.kernel.proofs.Deciding.{decides_below}
-use Rattle.std.proofs.Common.{rules}
 use Rattle.kernel.proofs.admission.is_range.Goals as goal
 
 -- `admission::is_range` meets its contract. Assumes nothing.

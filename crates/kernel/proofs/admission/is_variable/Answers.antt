@@ -1,6 +1,5 @@
 use Rattle.diagram.specs.Table.{variables}
 use Rattle.kernel.proofs.Deciding.{decides_below}
-use Rattle.std.proofs.Common.{rules}
 use Rattle.kernel.proofs.admission.is_variable.Goals as goal
 
 -- `admission::is_variable` meets its contract. Assumes nothing.

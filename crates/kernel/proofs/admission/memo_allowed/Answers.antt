@@ -1,6 +1,5 @@
 use native.Mathlib.Omega.{arith}
 use Rattle.table.specs.Deciding.{holds, fails}
-use Rattle.std.proofs.Common.{rules}
 use Rattle.kernel.proofs.admission.memo_allowed.Goals as goal
 
 -- `admission::memo_allowed` meets its contract. Assumes nothing.

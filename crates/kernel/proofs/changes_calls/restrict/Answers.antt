@@ -1,6 +1,5 @@
 use native.Mathlib.Omega.{arith}
 use Rattle.kernel.proofs.ByIds.{ids_lent, cleared_lent, cleared, ids_refused, ids_answered, same_restrict}
-use Rattle.std.proofs.Common.{rules}
 use Rattle.kernel.proofs.changes_calls.restrict.Goals as goal
 
 -- `changes_calls::restrict` has the one outcome that its contract allows. Assumes nothing.

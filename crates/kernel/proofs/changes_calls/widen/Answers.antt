@@ -1,7 +1,6 @@
 use native.Mathlib.Omega.{arith}
 use Rattle.ranges.proofs.Ends.{held_keyed}
 use Rattle.kernel.proofs.ByIds.{ids_lent, cleared_lent, cleared, ids_refused, ids_answered, same_widen}
-use Rattle.std.proofs.Common.{rules}
 use Rattle.kernel.proofs.changes_calls.widen.Goals as goal
 
 -- `changes_calls::widen` has the one outcome that its contract allows. Assumes nothing.

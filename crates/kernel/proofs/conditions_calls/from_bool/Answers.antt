@@ -1,6 +1,5 @@
 use native.Mathlib.Omega.{arith}
 use Rattle.kernel.proofs.Admitted.{admitted_lent, condition_refused, condition_answered, same_bool}
-use Rattle.std.proofs.Common.{rules}
 use Rattle.kernel.proofs.conditions_calls.from_bool.Goals as goal
 
 -- `conditions_calls::from_bool` has the one outcome that its contract allows. Assumes nothing.

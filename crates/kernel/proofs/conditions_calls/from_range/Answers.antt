@@ -1,7 +1,6 @@
 use native.Mathlib.Omega.{arith}
 use Rattle.ranges.proofs.Ends.{held_keyed}
 use Rattle.kernel.proofs.Admitted.{admitted_lent, condition_refused, condition_answered, same_range}
-use Rattle.std.proofs.Common.{rules}
 use Rattle.kernel.proofs.conditions_calls.from_range.Goals as goal
 
 -- `conditions_calls::from_range` has the one outcome that its contract allows. Assumes nothing.

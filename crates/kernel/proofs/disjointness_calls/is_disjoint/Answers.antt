@@ -1,10 +1,7 @@
-use native.Mathlib.Omega.{arith}
-use borrow.Author.Tests.{not-true, not-false}
 use Rattle.table.proofs.Laws.{decided_true, decided_false}
 use Rattle.table.specs.Told.{refused_3, reply_no, reply_0}
 use Rattle.table.proofs.Hearing.{passed_check_sound, check_refuses}
 use Rattle.disjointness.proofs.Whole.{sound_asked, sound_answer}
-use Rattle.std.proofs.Common.{rules}
 use Rattle.kernel.proofs.disjointness_calls.is_disjoint.Goals as goal
 
 -- `disjointness_calls::is_disjoint` has the one outcome that its contract allows. Assumes nothing.

@@ -2,7 +2,6 @@ use mathlib.Core.Path.{refl}
 use Rattle.walks.proofs.Finished.{ready_zeroed}
 use Rattle.kernel.proofs.Deciding.{asks_none}
 use Rattle.kernel.proofs.ByIds.{ids_lent, cleared_lent, cleared, ids_refused, ids_answered}
-use Rattle.std.proofs.Common.{rules}
 use Rattle.kernel.proofs.joins_calls.or.Goals as goal
 
 -- `joins_calls::or` has the one outcome that its contract allows. Assumes nothing.

@@ -1,9 +1,5 @@
 use native.Mathlib.Omega.{arith}
-use Rattle.making.proofs.Fronts.{ordered_before, ordered_behind, ordered_same}
-use mathlib.Core.List.{[], ◌∷◌}
-use mathlib.Core.Path.{◌≡◌, ap}
-use Prim.Native.Nat.{ℕ}
-use Rattle.std.proofs.Common.{rules}
+use Rattle.making.proofs.Fronts.{ordered_before, ordered_behind}
 use Rattle.making.proofs.chain.compared.Goals as goal
 
 -- `chain::compared` meets its contract. Assumes nothing.

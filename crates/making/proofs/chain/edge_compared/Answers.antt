@@ -1,5 +1,4 @@
 use Rattle.making.proofs.Fronts.{ordered_at, number_decided, number_further}
-use Rattle.std.proofs.Common.{rules}
 use Rattle.making.proofs.chain.edge_compared.Goals as goal
 
 -- `chain::edge_compared` meets its contract: by the child, and where that is the same by the cut. Assumes nothing.

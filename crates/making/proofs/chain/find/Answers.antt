@@ -1,14 +1,11 @@
-use Prim.Native.Nat.{ℕ, ◌-◌}
+use Prim.Native.Nat.{◌-◌}
 use native.Mathlib.Omega.{arith}
 use Rattle.ids.specs.Id.{sign}
-use Rattle.table.specs.Layout.{store}
-use Rattle.table.specs.Lent.{SoundLent}
-use Rattle.making.specs.Seeking.{rest_in, far, Sought}
+use Rattle.making.specs.Seeking.{rest_in}
 use Rattle.making.proofs.Hashing.{hash_in_lt}
 use Rattle.making.proofs.Fronts.{front_in_lem}
 use Rattle.making.proofs.Walked.{not_same}
 use Rattle.making.proofs.Finding.{find_none, find_within, find_count, find_same, find_passed, find_stopped}
-use Rattle.std.proofs.Common.{rules}
 use Rattle.making.proofs.chain.find.Goals as goal
 
 pub seek-s-requires : goal.seek-s-requires

@@ -1,14 +1,8 @@
-use Prim.Native.Nat.{ℕ, ◌-◌}
-use native.Mathlib.Omega.{arith}
+use Prim.Native.Nat.{ℕ}
 use Rattle.ids.specs.Id.{sign}
 use Rattle.table.specs.Layout.{store}
 use Rattle.table.specs.Lent.{SoundLent}
 use Rattle.making.specs.Seeking.{rest_in, far, Sought}
-use Rattle.making.proofs.Hashing.{hash_in_lt}
-use Rattle.making.proofs.Fronts.{front_in_lem}
-use Rattle.making.proofs.Walked.{not_same}
-use Rattle.making.proofs.Finding.{find_none, find_within, find_count, find_same, find_passed, find_stopped}
-use Rattle.std.proofs.Common.{rules}
 use Rattle.making.proofs.chain.find.Given as goal
 
 -- `chain::find` meets its contract: candidates, until one is the node or its place is known. Assumes nothing.

@@ -1,8 +1,6 @@
 use mathlib.Core.Path.{refl, ap}
 use Prim.Native.Nat.{ℕ, ◌+◌}
-use native.Mathlib.Omega.{arith}
 use Rattle.making.proofs.Fronts.{number_decided, number_further, ordered_decided, ordered_further, edge_at_equal}
-use Rattle.std.proofs.Common.{rules}
 use Rattle.making.proofs.chain.front_compared.Goals as goal
 
 -- `chain::front_compared` meets its contract: part by part, until one decides. Assumes nothing.

@@ -1,11 +1,7 @@
-use mathlib.Core.Path.{◌∙◌}
 use Prim.Native.Nat.{ℕ, ◌-◌, ◌≤◌}
-use native.Mathlib.Omega.{arith}
 use Rattle.ids.specs.Id.{sign}
 use Rattle.table.specs.Layout.{store}
-use Rattle.making.proofs.Hashing.{key_is}
-use Rattle.making.proofs.Fronts.{EdgesFrom, edges_done, edges_decided, edges_further}
-use Rattle.std.proofs.Common.{rules}
+use Rattle.making.proofs.Fronts.{EdgesFrom}
 use Rattle.making.proofs.chain.rest_compared.Given as goal
 
 -- `chain::rest_compared` meets its contract: edge by edge, until one decides. Assumes nothing.

@@ -1,13 +1,10 @@
 use mathlib.Core.Path.{◌∙◌, ap}
-use mathlib.Core.Logic.{⊎_elim}
 use Prim.Native.Nat.{ℕ, ◌-◌}
 use native.Mathlib.Omega.{arith}
 use lib.ListN.{get_or}
 use Rattle.chains.specs.Row.{from}
 use Rattle.table.specs.Layout.{room, store}
-use Rattle.making.specs.Seeking.{far}
-use Rattle.making.proofs.Walked.{Going, going_from, going_starts, going_within, going_on, going_falls, seeks_node, seeks_stop, seeks_end, hash_low, hash_high, front_low, front_high, front_same, not_same, not_equal}
-use Rattle.std.proofs.Common.{rules}
+use Rattle.making.proofs.Walked.{going_from, going_starts, going_within, going_on, going_falls, seeks_node, seeks_stop, seeks_end, hash_low, hash_high, front_low, front_high, front_same, not_same, not_equal}
 use Rattle.making.proofs.chain.seek.Goals as goal
 use Rattle.making.proofs.chain.seek.Goals.{then-k-h+else-by_front-eq-SAME+else-by_front-gt-SAME, else-k-h}
 
@@ -52,8 +49,8 @@ loop-at-smaller c = let start = c in
 pub loop-at-preserved : goal.loop-at-preserved
 loop-at-preserved c = let start = c in
     going_on (store start.args.nodes.now start.args.children.now start.args.cuts.now) start.args.index.now start.args.h start.args.f start.args.from start.requires.0.some_nodes start.requires.1 start.requires.2 c.loop-at.invariant c.loop-at-test.true c.word-at-in-loop-at.ensures.0 (λ u z l rest. elim c.if-k-h.branch [
-        then-k-h+else-by_front-eq-SAME+else-by_front-gt-SAME w ↦ front_low z l c.word-k.ensures.0 start.args.h start.args.f w.if-k-h.true w.front_compared-by_front.ensures rest (not_same w.if-by_front-eq-SAME.false w.if-by_front-gt-SAME.false)
-        | else-k-h w ↦ hash_low z l c.word-k.ensures.0 start.args.h start.args.f rest (not_equal c.if-h-k.false w.if-k-h.false)
+      | then-k-h+else-by_front-eq-SAME+else-by_front-gt-SAME w ↦ front_low z l c.word-k.ensures.0 start.args.h start.args.f w.if-k-h.true w.front_compared-by_front.ensures rest (not_same w.if-by_front-eq-SAME.false w.if-by_front-gt-SAME.false)
+      | else-k-h w ↦ hash_low z l c.word-k.ensures.0 start.args.h start.args.f rest (not_equal c.if-h-k.false w.if-k-h.false)
     ])
 
 pub returns : goal.returns

@@ -1,7 +1,5 @@
 use native.Mathlib.Omega.{arith}
-use lib.ListN.{length-set}
-use Rattle.making.proofs.Spliced.{spliced_some, spliced_none}
-use Rattle.std.proofs.Common.{rules}
+use Rattle.making.proofs.Spliced.{spliced_some}
 use Rattle.making.proofs.chain.splice.Goals as goal
 
 pub returns-then-q-gt0 : goal.returns-then-q-gt0

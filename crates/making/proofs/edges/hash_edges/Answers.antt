@@ -1,11 +1,8 @@
-use Prim.Native.Nat.{◌<◌, ◌≤◌, ◌-◌}
-use mathlib.Core.Path.{◌≡◌, ap, sym, ◌∙◌}
+use mathlib.Core.Path.{sym, ◌∙◌}
 use native.Mathlib.Omega.{arith}
 use Rattle.ids.specs.Id.{sign}
 use Rattle.table.proofs.Laws.{mix_at_equal}
-use Rattle.making.specs.Building.{hash_in}
-use Rattle.making.proofs.Hashing.{key_is, key_small, hash_none, hash_next}
-use Rattle.std.proofs.Common.{rules}
+use Rattle.making.proofs.Hashing.{key_is, hash_none, hash_next}
 use Rattle.making.proofs.edges.hash_edges.Goals as goal
 
 pub loop-j-init : goal.loop-j-init

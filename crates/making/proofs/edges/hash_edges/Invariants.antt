@@ -1,11 +1,7 @@
 use Prim.Native.Nat.{◌<◌, ◌≤◌, ◌-◌}
-use mathlib.Core.Path.{◌≡◌, ap, sym, ◌∙◌}
-use native.Mathlib.Omega.{arith}
+use mathlib.Core.Path.{◌≡◌}
 use Rattle.ids.specs.Id.{sign}
-use Rattle.table.proofs.Laws.{mix_at_equal}
 use Rattle.making.specs.Building.{hash_in}
-use Rattle.making.proofs.Hashing.{key_is, key_small, hash_none, hash_next}
-use Rattle.std.proofs.Common.{rules}
 use Rattle.making.proofs.edges.hash_edges.Given as goal
 
 -- `edges::hash_edges` meets its contract. Assumes nothing.

@@ -1,7 +1,6 @@
 use mathlib.Core.Path.{◌∙◌}
 use native.Mathlib.Omega.{arith}
-use Rattle.making.proofs.Two.{two_hash, two_key_small}
-use Rattle.std.proofs.Common.{rules}
+use Rattle.making.proofs.Two.{two_hash}
 use Rattle.making.proofs.edges.hash_two.Goals as goal
 
 pub returns : goal.returns

@@ -1,9 +1,6 @@
 use mathlib.Core.Path.{refl}
-use Prim.Native.Nat.{◌-◌}
 use native.Mathlib.Omega.{arith}
-use Rattle.making.proofs.Slots.{slot_most}
-use Rattle.making.proofs.Merged.{Merging, merging_none, merging_next, merging_done}
-use Rattle.std.proofs.Common.{rules}
+use Rattle.making.proofs.Merged.{merging_none, merging_next}
 use Rattle.making.proofs.edges.merged.Goals as goal
 
 pub loop-j-init : goal.loop-j-init

@@ -2,7 +2,6 @@ use native.Mathlib.Omega.{arith}
 use Rattle.making.proofs.Arrays.{cut_small}
 use Rattle.making.proofs.Kept.{edges_inside}
 use Rattle.making.proofs.Adding.{before_le, behind_le, hash_small, added}
-use Rattle.std.proofs.Common.{rules}
 use Rattle.making.proofs.nodes.add.Goals as goal
 
 -- `nodes::add` meets its contract: the edges, the record and its place in the index, written behind the used ones. Assumes nothing.

@@ -3,7 +3,6 @@ use native.Mathlib.Omega.{arith}
 use Rattle.making.proofs.Kept.{edges_inside}
 use Rattle.making.proofs.Two.{two_lead, two_cut_small}
 use Rattle.making.proofs.Adding.{before_le, behind_le, hash_small, added}
-use Rattle.std.proofs.Common.{rules}
 use Rattle.making.proofs.nodes.add_two.Goals as goal
 
 -- `nodes::add_two` meets its contract: `add` on two edges. Assumes nothing.

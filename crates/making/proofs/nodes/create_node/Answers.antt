@@ -1,5 +1,4 @@
 use Rattle.making.proofs.Creating.{merged_builds}
-use Rattle.std.proofs.Common.{rules}
 use Rattle.making.proofs.nodes.create_node.Goals as goal
 
 -- `nodes::create_node` meets its contract: the edges merged, and settled. Assumes nothing.

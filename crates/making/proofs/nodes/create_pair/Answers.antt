@@ -2,7 +2,6 @@ use mathlib.Core.Path.{refl}
 use native.Mathlib.Omega.{arith}
 use Rattle.making.proofs.Two.{pair_of, pair_buildable, pair_made, pair_dropped}
 use Rattle.making.proofs.Creating.{kept}
-use Rattle.std.proofs.Common.{rules}
 use Rattle.making.proofs.nodes.create_pair.Goals as goal
 
 -- `nodes::create_pair` meets its contract: the child where both agree, else the node of the two edges. Assumes nothing.

@@ -1,9 +1,7 @@
 use mathlib.Core.Path.{sym, ◌∙◌}
-use borrow.Author.Tests.{not-false, not-true}
 use Rattle.table.proofs.Laws.{decided_true, decided_false}
 use Rattle.making.proofs.Kept.{edges_inside}
-use Rattle.making.proofs.Creating.{no_room, added_one, added_small}
-use Rattle.std.proofs.Common.{rules}
+use Rattle.making.proofs.Creating.{no_room, added_one}
 use Rattle.making.proofs.nodes.extend.Goals as goal
 
 -- `nodes::extend` meets its contract: one node more, or no room for it. Assumes nothing.

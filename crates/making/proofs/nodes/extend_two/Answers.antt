@@ -1,12 +1,10 @@
 use mathlib.Core.Path.{sym, ◌∙◌}
 use native.Mathlib.Omega.{arith}
-use borrow.Author.Tests.{not-false, not-true}
 use Rattle.table.proofs.Laws.{decided_true, decided_false}
 use Rattle.making.proofs.Kept.{edges_inside}
 use Rattle.making.specs.Building.{two_of}
 use Rattle.making.proofs.Two.{two_lead}
-use Rattle.making.proofs.Creating.{no_room, added_one, added_small}
-use Rattle.std.proofs.Common.{rules}
+use Rattle.making.proofs.Creating.{no_room, added_one}
 use Rattle.making.proofs.nodes.extend_two.Goals as goal
 
 -- `nodes::extend_two` meets its contract: one node of two edges more, or no room for it. Assumes nothing.

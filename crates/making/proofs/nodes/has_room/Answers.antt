@@ -1,6 +1,5 @@
 use native.Mathlib.Omega.{arith}
 use Rattle.table.specs.Deciding.{holds, fails}
-use Rattle.std.proofs.Common.{rules}
 use Rattle.making.proofs.nodes.has_room.Goals as goal
 
 -- `nodes::has_room` meets its contract. Assumes nothing.

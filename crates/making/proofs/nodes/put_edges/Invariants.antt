@@ -1,13 +1,9 @@
-use mathlib.Core.Path.{◌≡◌, refl, ◌∙◌}
+use mathlib.Core.Path.{◌≡◌}
 use Prim.Native.Nat.{◌-◌, ◌≤◌}
-use native.Mathlib.Omega.{arith}
-use lib.ListN.{length, length-set}
-use mir.ValLaws.{to_z-of_z}
+use lib.ListN.{length}
 use Rattle.ids.specs.Id.{sign, under}
 use Rattle.making.specs.Building.{child_in, cut_in}
 use Rattle.making.specs.Storing.{EdgesWritten, stored_cut}
-use Rattle.making.proofs.Stores.{written_none, written_next}
-use Rattle.std.proofs.Common.{rules}
 use Rattle.making.proofs.nodes.put_edges.Given as goal
 
 -- `nodes::put_edges` meets its contract: the edges passed are stored. Assumes nothing.

@@ -1,10 +1,7 @@
 use mathlib.Core.Path.{refl, ◌∙◌}
-use native.Mathlib.Omega.{arith}
-use lib.ListN.{length-set}
 use mir.Syntax.{w64}
 use mir.ValLaws.{to_z-of_z}
 use Rattle.making.proofs.Two.{two_written}
-use Rattle.std.proofs.Common.{rules}
 use Rattle.making.proofs.nodes.put_two.Goals as goal
 
 pub returns : goal.returns

@@ -3,7 +3,6 @@ use native.Mathlib.Omega.{arith}
 use Rattle.making.proofs.Arrays.{cut_small}
 use Rattle.making.proofs.Two.{two_buildable, array_of_two, array_as_two}
 use Rattle.making.proofs.Creating.{ref_small, dropped, found_one}
-use Rattle.std.proofs.Common.{rules}
 use Rattle.making.proofs.nodes.settle.Goals as goal
 
 -- `nodes::settle` meets its contract: the child that all edges lead to, the node of two, the node found, or the table extended. Assumes nothing.

@@ -1,10 +1,8 @@
 use mathlib.Core.Path.{sym}
-use mathlib.Core.List.{[]}
 use native.Mathlib.Omega.{arith}
 use Rattle.making.specs.Building.{two_of}
 use Rattle.making.proofs.Two.{two_lead, two_cut_small, two_front, two_finds}
 use Rattle.making.proofs.Creating.{ref_small, found_one}
-use Rattle.std.proofs.Common.{rules}
 use Rattle.making.proofs.nodes.settle_two.Goals as goal
 
 -- `nodes::settle_two` meets its contract: the node found, or the table extended. Assumes nothing.

@@ -1,11 +1,8 @@
-use mathlib.Core.Path.{◌≡◌, refl}
+use mathlib.Core.Path.{◌≡◌}
 use Prim.Native.Nat.{◌-◌, ◌≤◌}
-use native.Mathlib.Omega.{arith}
-use lib.ListN.{length, length-set}
+use lib.ListN.{length}
 use lib.IntN.{pos}
 use Rattle.making.specs.Storing.{EdgesWritten}
-use Rattle.making.proofs.Stores.{written_none, written_next}
-use Rattle.std.proofs.Common.{rules}
 use Rattle.making.proofs.undo.blank_edges.Given as goal
 
 -- `undo::blank_edges` meets its contract: the cells passed hold zero. Assumes nothing.

@@ -2,7 +2,6 @@ use Prim.Native.Nat.{◌-◌}
 use native.Mathlib.Omega.{arith}
 use Rattle.making.proofs.Shrunk.{prev_le, next_le}
 use Rattle.making.proofs.Popped.{sound, bucket_is, popped}
-use Rattle.std.proofs.Common.{rules}
 use Rattle.making.proofs.undo.pop.Goals as goal
 
 pub splice-requires : goal.splice-requires

@@ -1,11 +1,8 @@
-use mathlib.Core.Path.{◌≡◌, refl, sym, ◌∙◌}
+use mathlib.Core.Path.{◌≡◌}
 use Prim.Native.Nat.{◌≤◌}
-use native.Mathlib.Omega.{arith}
 use lib.ListN.{length}
 use Rattle.making.specs.Outcome.{TakenBack}
-use Rattle.making.proofs.Kept.{stays_refl, taken_on, taken_to}
 use Rattle.table.specs.Layout.{store}
-use Rattle.std.proofs.Common.{rules}
 use Rattle.making.proofs.undo.undo.Given as goal
 
 -- `undo::undo` meets its contract: one `pop` for each node above the mark. Assumes nothing.

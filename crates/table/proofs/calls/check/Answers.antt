@@ -2,7 +2,6 @@ use borrow.Author.Tests.{not-true, not-false}
 use Rattle.table.specs.Told.{checked_1, checked_2}
 use Rattle.table.proofs.Laws.{decided_true, decided_false, judged_no}
 use Rattle.table.proofs.Hearing.{checks_it}
-use Rattle.std.proofs.Common.{rules}
 use Rattle.table.proofs.calls.check.Goals as goal
 
 -- `calls::check` has the one outcome that its contract allows. Assumes nothing.

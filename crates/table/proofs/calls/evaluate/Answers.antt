@@ -1,9 +1,6 @@
-use native.Mathlib.Omega.{arith}
-use borrow.Author.Tests.{not-true, not-false}
 use Rattle.table.specs.Told.{refused_1, refused_3, refused_last, reply_no}
 use Rattle.table.proofs.Laws.{decided_true, decided_false}
 use Rattle.table.proofs.Hearing.{known_when_true, unknown_when_false, passed_check_sound, check_refuses, hears_it}
-use Rattle.std.proofs.Common.{rules}
 use Rattle.table.proofs.calls.evaluate.Goals as goal
 
 -- `calls::evaluate` has the one outcome that its contract allows. Assumes nothing.

@@ -1,8 +1,6 @@
-use borrow.Author.Tests.{not-true, not-false}
 use Rattle.table.specs.Told.{freshened_1}
 use Rattle.table.proofs.Laws.{decided_true, decided_false}
 use Rattle.table.proofs.Hearing.{freshens_it}
-use Rattle.std.proofs.Common.{rules}
 use Rattle.table.proofs.calls.fresh.Goals as goal
 
 -- `calls::fresh` has the one outcome that its contract allows. Assumes nothing.

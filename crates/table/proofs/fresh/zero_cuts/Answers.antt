@@ -1,10 +1,6 @@
-use mathlib.Core.Path.{◌≡◌, refl}
-use Prim.Native.Nat.{◌-◌, ◌≤◌}
 use native.Mathlib.Omega.{arith}
-use lib.ListN.{length, length-set}
 use lib.IntN.{pos}
-use Rattle.table.proofs.Zeroed.{Filled, filled_next, filled_all}
-use Rattle.std.proofs.Common.{rules}
+use Rattle.table.proofs.Zeroed.{filled_all}
 use Rattle.table.proofs.fresh.zero_cuts.Goals as goal
 
 pub returns : goal.returns

@@ -1,10 +1,8 @@
-use mathlib.Core.Path.{◌≡◌, refl}
+use mathlib.Core.Path.{◌≡◌}
 use Prim.Native.Nat.{◌-◌, ◌≤◌}
-use native.Mathlib.Omega.{arith}
-use lib.ListN.{length, length-set}
+use lib.ListN.{length}
 use lib.IntN.{pos}
-use Rattle.table.proofs.Zeroed.{Filled, filled_next, filled_all}
-use Rattle.std.proofs.Common.{rules}
+use Rattle.table.proofs.Zeroed.{Filled}
 use Rattle.table.proofs.fresh.zero_cuts.Given as goal
 
 -- `fresh::zero_cuts`: the cells passed hold zero. Assumes nothing.

@@ -1,9 +1,7 @@
-use mathlib.Core.Path.{◌≡◌, refl}
+use mathlib.Core.Path.{◌≡◌}
 use Prim.Native.Nat.{◌-◌, ◌≤◌}
-use native.Mathlib.Omega.{arith}
-use lib.ListN.{length, length-set}
-use Rattle.table.proofs.Zeroed.{Filled, filled_next, filled_all}
-use Rattle.std.proofs.Common.{rules}
+use lib.ListN.{length}
+use Rattle.table.proofs.Zeroed.{Filled}
 use Rattle.table.proofs.fresh.zero_words.Given as goal
 
 -- `fresh::zero_words`: the cells passed hold zero. Assumes nothing.

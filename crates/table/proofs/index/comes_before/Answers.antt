@@ -2,7 +2,6 @@ use mathlib.Core.Path.{sym, ◌∙◌}
 use native.Mathlib.Omega.{arith}
 use Rattle.table.specs.Layout.{store}
 use Rattle.table.proofs.Ordered as ordered
-use Rattle.std.proofs.Common.{rules}
 use Rattle.table.proofs.index.comes_before.Goals as goal
 
 -- `index::comes_before` meets its contract. Assumes nothing.

@@ -1,11 +1,7 @@
-use Prim.Native.Nat.{◌≤◌, ◌-◌}
-use mathlib.Core.Path.{◌≡◌, sym, ◌∙◌}
+use mathlib.Core.Path.{sym, ◌∙◌}
 use native.Mathlib.Omega.{arith}
-use Rattle.chains.specs.Lexical.{less}
-use Rattle.table.specs.Checking.{run_at}
 use Rattle.table.proofs.Laws as laws
 use Rattle.table.proofs.Ordered as ordered
-use Rattle.std.proofs.Common.{rules}
 use Rattle.table.proofs.index.edges_precede.Goals as goal
 
 pub returns-then-x-y : goal.returns-then-x-y

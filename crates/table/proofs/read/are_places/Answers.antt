@@ -1,13 +1,6 @@
-use Prim.Native.Nat.{ℕ, ◌<◌, ◌≤◌, ◌-◌}
-use mathlib.Core.Path.{sym, subst}
-use mathlib.Core.Logic.{⊎_elim}
 use native.Mathlib.Omega.{arith}
-use borrow.Author.Tests.{not-true, not-false}
 use Rattle.table.specs.Deciding.{holds, fails}
-use Rattle.table.specs.Layout.{cut_at}
-use Rattle.ranges.specs.Line.{Place}
 use Rattle.table.proofs.Laws as laws
-use Rattle.std.proofs.Common.{rules}
 use Rattle.table.proofs.read.are_places.Goals as goal
 
 pub returns-then-not-is_place_at : goal.returns-then-not-is_place_at

@@ -1,11 +1,8 @@
 use Prim.Native.Nat.{◌<◌, ◌≤◌, ◌+◌, ◌-◌}
-use mathlib.Core.Path.{◌≡◌, refl, sym, ◌∙◌}
+use mathlib.Core.Path.{sym, ◌∙◌}
 use native.Mathlib.Omega.{arith}
 use Rattle.table.specs.Layout.{cut_at, cut_position}
-use Rattle.table.specs.Held.{edges_from}
-use Rattle.diagram.specs.Pieces.{select}
-use Rattle.table.proofs.Scan.{rest, rest_none, rest_stop, rest_pass, rest_end}
-use Rattle.std.proofs.Common.{rules}
+use Rattle.table.proofs.Scan.{rest_stop, rest_pass, rest_end}
 use Rattle.table.proofs.read.choose.Goals as goal
 
 pub returns-then-p-cut_position_at : goal.returns-then-p-cut_position_at

@@ -1,11 +1,8 @@
-use Prim.Native.Nat.{◌<◌, ◌≤◌, ◌+◌, ◌-◌}
-use mathlib.Core.Path.{◌≡◌, refl, sym, ◌∙◌}
-use native.Mathlib.Omega.{arith}
-use Rattle.table.specs.Layout.{cut_at, cut_position}
+use Prim.Native.Nat.{◌≤◌, ◌-◌}
+use mathlib.Core.Path.{◌≡◌}
 use Rattle.table.specs.Held.{edges_from}
 use Rattle.diagram.specs.Pieces.{select}
-use Rattle.table.proofs.Scan.{rest, rest_none, rest_stop, rest_pass, rest_end}
-use Rattle.std.proofs.Common.{rules}
+use Rattle.table.proofs.Scan.{rest}
 use Rattle.table.proofs.read.choose.Given as goal
 
 -- `read::choose` meets its contract. Assumes nothing.

@@ -1,6 +1,5 @@
 use Rattle.table.specs.Deciding.{holds, fails}
 use Rattle.table.proofs.Laws as laws
-use Rattle.std.proofs.Common.{rules}
 use Rattle.table.proofs.read.is_place.Goals as goal
 
 -- `read::is_place` meets its contract. Assumes nothing.

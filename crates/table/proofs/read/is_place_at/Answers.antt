@@ -4,7 +4,6 @@ use Rattle.ranges.specs.Line.{Place}
 use Rattle.table.proofs.Laws as laws
 use mir.Syntax.{w64}
 use mir.ValLaws.{to_z-of_z}
-use Rattle.std.proofs.Common.{rules}
 use Rattle.table.proofs.read.is_place_at.Goals as goal
 
 -- `read::is_place_at` meets its contract. Assumes nothing.

@@ -7,7 +7,6 @@ use Rattle.table.specs.Checking.{spots}
 use Rattle.table.proofs.Laws as laws
 use Rattle.diagram.specs.Pieces.{select}
 use Rattle.table.proofs.Scan.{next_range, next_high, next_low, next_at, kid_earlier}
-use Rattle.std.proofs.Common.{rules}
 use Rattle.table.proofs.read.next_of.Goals as goal
 
 pub returns-then-v-lt-FIRST_BOOLEAN : goal.returns-then-v-lt-FIRST_BOOLEAN

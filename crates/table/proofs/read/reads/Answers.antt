@@ -1,15 +1,12 @@
-use Prim.Native.Nat.{ℕ, ◌≤◌, ◌/◌}
-use mathlib.Core.Path.{◌≡◌, refl, ap, sym, ◌∙◌, subst}
+use Prim.Native.Nat.{ℕ, ◌/◌}
+use mathlib.Core.Path.{ap, sym, ◌∙◌, subst}
 use native.Mathlib.Omega.{arith}
 use Rattle.ids.specs.Id.{sign, KnownTo}
 use Rattle.ids.proofs.Signs.{ref_under}
-use Rattle.table.specs.Held.{held}
-use Rattle.table.specs.Checking.{spots, Legible}
+use Rattle.table.specs.Checking.{Legible}
 use Rattle.table.proofs.Once.{records_once}
-use Rattle.diagram.specs.Table.{value}
 use Rattle.table.proofs.Scan.{step, value_terminal}
 use Rattle.table.specs.Layout.{store}
-use Rattle.std.proofs.Common.{rules}
 use Rattle.table.proofs.read.reads.Goals as goal
 
 pub next_of-c-requires : goal.next_of-c-requires

@@ -1,15 +1,9 @@
-use Prim.Native.Nat.{ℕ, ◌≤◌, ◌/◌}
-use mathlib.Core.Path.{◌≡◌, refl, ap, sym, ◌∙◌, subst}
-use native.Mathlib.Omega.{arith}
-use Rattle.ids.specs.Id.{sign, KnownTo}
-use Rattle.ids.proofs.Signs.{ref_under}
+use Prim.Native.Nat.{◌≤◌, ◌/◌}
+use mathlib.Core.Path.{◌≡◌}
 use Rattle.table.specs.Held.{held}
 use Rattle.table.specs.Checking.{spots, Legible}
-use Rattle.table.proofs.Once.{records_once}
 use Rattle.diagram.specs.Table.{value}
-use Rattle.table.proofs.Scan.{step, value_terminal}
 use Rattle.table.specs.Layout.{store}
-use Rattle.std.proofs.Common.{rules}
 use Rattle.table.proofs.read.reads.Given as goal
 
 -- `read::reads` meets its contract. Assumes nothing.

@@ -3,7 +3,6 @@ use Prim.Native.Nat.{◌/◌}
 use native.Mathlib.Omega.{arith}
 use Rattle.table.specs.Deciding.{holds, fails}
 use Rattle.table.proofs.Laws as laws
-use Rattle.std.proofs.Common.{rules}
 use Rattle.table.proofs.rules.child_stands.Goals as goal
 
 -- `rules::child_stands` meets its contract. Assumes nothing.

@@ -1,13 +1,7 @@
 use Prim.Native.Nat.{ℕ, ◌<◌, ◌≤◌, ◌+◌, ◌-◌}
-use mathlib.Core.Path.{◌≡◌, sym, ◌∙◌, subst}
-use mathlib.Core.Logic.{⊎_elim}
-use native.Mathlib.Omega.{arith}
-use borrow.Author.Tests.{not-true, not-false}
-use Rattle.table.specs.Deciding.{holds, fails}
+use mathlib.Core.Path.{◌≡◌}
 use Rattle.table.specs.Layout.{kid_at}
 use Rattle.table.specs.Lent.{Stands}
-use Rattle.table.proofs.Laws as laws
-use Rattle.std.proofs.Common.{rules}
 use Rattle.table.proofs.rules.kids_stand.Given as goal
 
 -- `rules::kids_stand` meets its contract. Assumes nothing.

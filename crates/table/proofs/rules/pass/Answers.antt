@@ -1,15 +1,12 @@
-use Prim.Native.Nat.{ℕ, ◌<◌, ◌≤◌, ◌+◌, ◌-◌}
+use Prim.Native.Nat.{◌+◌, ◌-◌}
 use mathlib.Core.Path.{◌≡◌, refl, ap, sym, ◌∙◌, subst}
 use mathlib.Core.Logic.{⊎_elim}
 use native.Mathlib.Omega.{arith}
-use borrow.Author.Tests.{not-true, not-false}
 use Rattle.table.specs.Deciding.{holds, fails}
-use Rattle.table.specs.Layout.{kid_at, cut_at, cut_position}
+use Rattle.table.specs.Layout.{cut_at, cut_position}
 use Rattle.table.specs.Indexed.{hash_to}
 use Rattle.table.specs.Lent.{Stands}
-use Rattle.table.specs.Checking.{below}
 use Rattle.table.proofs.Laws as laws
-use Rattle.std.proofs.Common.{rules}
 use Rattle.table.proofs.rules.pass.Goals as goal
 
 pub returns-then-not-child_stands : goal.returns-then-not-child_stands

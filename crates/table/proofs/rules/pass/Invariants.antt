@@ -1,15 +1,9 @@
 use Prim.Native.Nat.{ℕ, ◌<◌, ◌≤◌, ◌+◌, ◌-◌}
-use mathlib.Core.Path.{◌≡◌, refl, ap, sym, ◌∙◌, subst}
-use mathlib.Core.Logic.{⊎_elim}
-use native.Mathlib.Omega.{arith}
-use borrow.Author.Tests.{not-true, not-false}
-use Rattle.table.specs.Deciding.{holds, fails}
+use mathlib.Core.Path.{◌≡◌}
 use Rattle.table.specs.Layout.{kid_at, cut_at, cut_position}
 use Rattle.table.specs.Indexed.{hash_to}
 use Rattle.table.specs.Lent.{Stands}
 use Rattle.table.specs.Checking.{below}
-use Rattle.table.proofs.Laws as laws
-use Rattle.std.proofs.Common.{rules}
 use Rattle.table.proofs.rules.pass.Given as goal
 
 -- `rules::pass` meets its contract. Assumes nothing.

@@ -5,7 +5,6 @@ use Rattle.table.specs.Layout.{first_at}
 use Rattle.table.specs.Indexed.{hash_to}
 use Rattle.table.proofs.Laws as laws
 use Rattle.table.proofs.CutPositions.{cuts_from_climbs, climbs_from_cuts}
-use Rattle.std.proofs.Common.{rules}
 use Rattle.table.proofs.rules.rules_hold.Goals as goal
 
 -- `rules::rules_hold` meets its contract. Assumes nothing.

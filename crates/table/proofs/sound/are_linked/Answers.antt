@@ -1,13 +1,10 @@
-use Prim.Native.Nat.{ℕ, ◌<◌, ◌≤◌, ◌-◌}
 use mathlib.Core.Path.{sym, subst}
 use mathlib.Core.Logic.{⊎_elim}
 use native.Mathlib.Omega.{arith}
-use borrow.Author.Tests.{not-true, not-false}
 use Rattle.table.specs.Deciding.{holds, fails}
 use Rattle.table.specs.Layout.{store}
 use Rattle.table.specs.Checking.{LinkedAt}
 use Rattle.table.proofs.Laws as laws
-use Rattle.std.proofs.Common.{rules}
 use Rattle.table.proofs.sound.are_linked.Goals as goal
 
 pub returns-then-not-is_linked : goal.returns-then-not-is_linked

@@ -1,10 +1,8 @@
-use Prim.Native.Nat.{◌≤◌, ◌-◌}
-use mathlib.Core.Path.{◌≡◌, ap, sym, ◌∙◌}
+use mathlib.Core.Path.{ap, sym}
 use native.Mathlib.Omega.{arith}
-use Rattle.chains.specs.Local.{some, tally}
+use Rattle.chains.specs.Local.{some}
 use Rattle.chains.specs.Row.{words}
 use Rattle.table.proofs.Laws as laws
-use Rattle.std.proofs.Common.{rules}
 use Rattle.table.proofs.sound.full_words.Goals as goal
 
 pub loop-i-init : goal.loop-i-init

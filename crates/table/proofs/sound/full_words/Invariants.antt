@@ -1,10 +1,7 @@
 use Prim.Native.Nat.{◌≤◌, ◌-◌}
-use mathlib.Core.Path.{◌≡◌, ap, sym, ◌∙◌}
-use native.Mathlib.Omega.{arith}
-use Rattle.chains.specs.Local.{some, tally}
+use mathlib.Core.Path.{◌≡◌}
+use Rattle.chains.specs.Local.{tally}
 use Rattle.chains.specs.Row.{words}
-use Rattle.table.proofs.Laws as laws
-use Rattle.std.proofs.Common.{rules}
 use Rattle.table.proofs.sound.full_words.Given as goal
 
 -- `sound::full_words` meets its contract. Assumes nothing.

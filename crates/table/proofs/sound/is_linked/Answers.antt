@@ -1,13 +1,11 @@
 use Prim.Native.Nat.{◌-◌, ◌<◌}
 use mathlib.Core.Path.{sym, ◌∙◌}
 use native.Mathlib.Omega.{arith}
-use borrow.Author.Tests.{not-true, not-false}
 use Rattle.table.specs.Deciding.{fails}
 use Rattle.table.specs.Layout.{store}
 use Rattle.table.proofs.Laws as laws
 use Rattle.table.proofs.Whole.{bucket_hash}
 use Rattle.table.proofs.Links.{first_linked, linked_follows, order_linked}
-use Rattle.std.proofs.Common.{rules}
 use Rattle.table.proofs.sound.is_linked.Goals as goal
 
 pub returns-then-before-eq0 : goal.returns-then-before-eq0

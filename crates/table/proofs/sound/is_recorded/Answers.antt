@@ -1,11 +1,9 @@
 use mathlib.Core.Path.{sym, ◌∙◌}
-use native.Mathlib.Omega.{arith}
 use borrow.Author.Tests.{not-true, not-false}
 use Rattle.table.specs.Deciding.{holds, fails}
 use Rattle.table.specs.Layout.{store}
 use Rattle.table.proofs.Laws as laws
 use Rattle.table.proofs.Whole.{hash_at_lem}
-use Rattle.std.proofs.Common.{rules}
 use Rattle.table.proofs.sound.is_recorded.Goals as goal
 
 pub returns-then-not-seen : goal.returns-then-not-seen

@@ -1,14 +1,10 @@
-use Prim.Native.Nat.{ℕ, ◌<◌, ◌≤◌, ◌-◌, ◌/◌}
-use mathlib.Core.Path.{◌≡◌, refl, sym, ◌∙◌, subst}
+use mathlib.Core.Path.{refl, sym, ◌∙◌, subst}
 use mathlib.Core.Logic.{inl, inr, ⊎_elim}
 use native.Mathlib.Omega.{arith}
-use borrow.Author.Tests.{not-true, not-false}
-use lib.ListN.{length}
-use Rattle.table.specs.Layout.{start, store}
+use Rattle.table.specs.Layout.{store}
 use Rattle.table.specs.Checking.{unsound, Recorded}
 use Rattle.table.proofs.Laws as laws
 use Rattle.table.proofs.Whole.{judged, refused, unlinked}
-use Rattle.std.proofs.Common.{rules}
 use Rattle.table.proofs.sound.judge.Goals as goal
 use Rattle.table.proofs.sound.judge.Goals.{else-loop-n-test, then-loop-n-test+then-count-eq0}
 

@@ -1,9 +1,6 @@
 use mathlib.Core.Path.{sym, ◌∙◌}
-use native.Mathlib.Omega.{arith}
-use borrow.Author.Tests.{not-true, not-false}
 use Rattle.table.specs.Deciding.{holds, fails}
 use Rattle.table.proofs.Laws as laws
-use Rattle.std.proofs.Common.{rules}
 use Rattle.table.proofs.sound.rest_holds.Goals as goal
 
 pub returns-then-not-zeros_from : goal.returns-then-not-zeros_from

@@ -3,7 +3,6 @@ use Rattle.table.specs.Deciding.{holds, fails}
 use Rattle.table.proofs.Laws as laws
 use mir.Syntax.{w64}
 use mir.Val.{of_z}
-use Rattle.std.proofs.Common.{rules}
 use Rattle.table.proofs.words.blank.Goals as goal
 
 -- `words::blank` meets its contract. Assumes nothing.

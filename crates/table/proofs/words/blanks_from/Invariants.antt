@@ -1,14 +1,7 @@
 use Prim.Native.Nat.{ℕ, ◌<◌, ◌≤◌, ◌-◌}
-use mathlib.Core.Path.{◌≡◌, refl, ap}
-use mathlib.Core.Logic.{⊎_elim}
-use native.Mathlib.Omega.{arith}
+use mathlib.Core.Path.{◌≡◌}
 use lib.ListN.{length, get_or}
 use lib.IntN.{pos}
-use mir.Syntax.{w64}
-use mir.Val.{of_z}
-use Rattle.table.specs.Deciding.{holds, fails}
-use Rattle.table.proofs.Laws as laws
-use Rattle.std.proofs.Common.{rules}
 use Rattle.table.proofs.words.blanks_from.Given as goal
 
 -- `words::blanks_from` meets its contract. Assumes nothing.

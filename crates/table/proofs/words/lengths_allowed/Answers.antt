@@ -1,6 +1,5 @@
 use native.Mathlib.Omega.{arith}
 use Rattle.table.specs.Deciding.{holds, fails}
-use Rattle.std.proofs.Common.{rules}
 use Rattle.table.proofs.words.lengths_allowed.Goals as goal
 
 -- `words::lengths_allowed` meets its contract. Assumes nothing.

@@ -1,11 +1,7 @@
-use Prim.Native.Nat.{ℕ, ◌<◌, ◌≤◌, ◌-◌}
-use mathlib.Core.Path.{◌≡◌, refl}
 use mathlib.Core.Logic.{⊎_elim}
 use native.Mathlib.Omega.{arith}
-use lib.ListN.{get_or}
 use Rattle.table.specs.Deciding.{holds, fails}
 use Rattle.table.proofs.Laws as laws
-use Rattle.std.proofs.Common.{rules}
 use Rattle.table.proofs.words.zeros_between.Goals as goal
 
 pub loop-i-preserved : goal.loop-i-preserved

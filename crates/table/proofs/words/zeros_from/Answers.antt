@@ -1,7 +1,6 @@
 use mathlib.Core.Logic.{⊎_elim}
 use lib.ListN.{length}
 use Rattle.table.proofs.Laws as laws
-use Rattle.std.proofs.Common.{rules}
 use Rattle.table.proofs.words.zeros_from.Goals as goal
 
 -- `words::zeros_from` meets its contract. Assumes nothing.

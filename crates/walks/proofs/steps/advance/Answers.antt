@@ -1,9 +1,7 @@
 use mathlib.Core.Path.{◌≡◌}
 use Prim.Native.Nat.{ℕ}
 use native.Mathlib.Omega.{arith}
-use borrow.Author.Tests.{not-true, not-false}
 use Rattle.walks.specs.Walking.{stopped, left, right, level}
-use Rattle.std.proofs.Common.{rules}
 use Rattle.walks.proofs.steps.advance.Goals as goal
 
 -- `steps::advance` meets its contract. Assumes nothing.

@@ -1,0 +1,10 @@
+use Rattle.std.proofs.Common.{◌-◌, ◌≤◌, rules}
+use Rattle.std.proofs.Common.{rules}
+use Rattle.damage.proofs.laid.edges_lead.Given as goal
+
+-- `damage::laid::edges_lead` ends: the number of edges compared is at most the number of children. Assumes nothing.
+abbrev pub invariant-loop-j : goal.invariant-loop-j
+invariant-loop-j l = l.j ≤ l.n
+
+abbrev pub decreases-loop-j : goal.decreases-loop-j
+decreases-loop-j l = l.n - l.j
