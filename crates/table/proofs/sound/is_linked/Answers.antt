@@ -1,5 +1,5 @@
 use Prim.Native.Nat.{◌-◌, ◌<◌}
-use mathlib.Core.Path.{sym, ◌∙◌}
+use mathlib.Core.Path.{◌≡◌, sym, ◌∙◌}
 use native.Mathlib.Omega.{arith}
 use Rattle.table.specs.Deciding.{fails}
 use Rattle.table.specs.Layout.{store}
@@ -30,6 +30,7 @@ returns c = let st = store c.args.nodes.now c.args.children.now c.args.cuts.now 
     let n = c.args.n in
     let m = c.word-before.result - 1 in
     let u : m < c.args.u = laws.one_less c.if-before-eq0.false c.if-u-before.false in
+    let together : c.scaled-home.result ≡ c.scaled-bucket.result = omega arith in
     order_linked st c.args.index.now c.args.u n m (laws.one_more c.word-before.ensures.0 c.if-before-eq0.false) u (laws.decided_true c.names-2.ensures (c.if-not-names.false))
-    (sym (c.scaled-home.ensures.0 ∙ bucket_hash st m (c.word-other.ensures.0 ∙ (c.requires.3 m u).hashed)) ∙ (c.if-home-bucket.false ∙ (c.scaled-bucket.ensures.0 ∙ bucket_hash st n (c.word-hash.ensures.0 ∙ (c.requires.3 n c.requires.2).hashed))))
+    (sym (c.scaled-home.ensures.0 ∙ bucket_hash st m (c.word-other.ensures.0 ∙ (c.requires.3 m u).hashed)) ∙ (together ∙ (c.scaled-bucket.ensures.0 ∙ bucket_hash st n (c.word-hash.ensures.0 ∙ (c.requires.3 n c.requires.2).hashed))))
     c.comes_before.ensures
