@@ -10,5 +10,4 @@ returns-then-both_open c = let pre· = c.requires in
     worked_adds_nothing pre·.0 pre·.2 _ (narrow_all pre·.0 _ _ pre·.3 pre·.4 (c.both_open.ensures c.if-both_open.true))
 
 pub returns : goal.returns
-returns c = let start = c in
-    worked_when_finished start.requires.0 (stepped_equal_want c.narrow_from-m.ensures (narrow_bounded c.from_bounds-range.ensures (held_keyed start.args.lower start.well_formed.1.1.1.1.1.1.1.1.0) (held_keyed start.args.upper start.well_formed.1.1.1.1.1.1.1.1.1.0) _ _ _)) c.finish.ensures
+returns c = worked_when_finished c.requires.0 (stepped_equal_want c.narrow_from-m.ensures (narrow_bounded c.from_bounds-range.ensures (held_keyed c.args.lower c.well_formed.1.1.1.1.1.1.1.1.0) (held_keyed c.args.upper c.well_formed.1.1.1.1.1.1.1.1.1.0) _ _ _)) c.finish.ensures

@@ -6,8 +6,7 @@ use Rattle.changes.proofs.Bottom.{narrow_kept, narrow_emptied, narrow_buildable,
 use Rattle.changes.proofs.narrowing.narrow_here.Goals as goal
 
 pub returns-then-a-eq1 : goal.returns-then-a-eq1
-returns-then-a-eq1 c = let start = c in
-    outcome_adds_nothing start.requires.0 _ (narrow_kept start.requires.0 (sees_views (lent_readable start.requires.0) _ start.requires.1 (is_variable start.requires.3) c.view_at-a.ensures) start.requires.1 start.requires.2 start.requires.3 start.args.range c.if-a-eq1.true)
+returns-then-a-eq1 c = outcome_adds_nothing c.requires.0 _ (narrow_kept c.requires.0 (sees_views (lent_readable c.requires.0) _ c.requires.1 (is_variable c.requires.3) c.view_at-a.ensures) c.requires.1 c.requires.2 c.requires.3 c.args.range c.if-a-eq1.true)
 
 pub returns-then-is_empty : goal.returns-then-is_empty
 returns-then-is_empty c = let pre· = c.requires in

@@ -17,14 +17,13 @@ pub returns-then-not-is_before : goal.returns-then-not-is_before
 returns-then-not-is_before t c =
     let tests : c.is_before.result ≡ is_before (table_of c.args.used (store c.args.nodes.now c.args.children.now c.args.cuts.now)) c.args.v c.args.id.0 = let pre· = c.requires in before_is (ready_readable pre·.0) _ pre·.1.known pre·.3 c.is_before.ensures in
     let here : Views (store c.args.nodes.now c.args.children.now c.args.cuts.now) c.args.used.nodes c.args.v c.args.id.0 c.view_at-here.result = let pre· = c.requires in sees_views (ready_readable pre·.0) _ pre·.1.known pre·.3 c.view_at-here.ensures in
-    let start = c in
-    stepped_adds_nothing start.requires.0 _ (chosen_here start.requires.3 start.args.value start.requires.0 start.requires.1 tests (c.if-not-is_before.true) (chosen_is (ready_readable start.requires.0) start.requires.1.known start.requires.2 start.requires.3 here start.args.value c.child-to.ensures c.edge_of.ensures))
+    stepped_adds_nothing c.requires.0 _ (chosen_here c.requires.3 c.args.value c.requires.0 c.requires.1 tests (c.if-not-is_before.true) (chosen_is (ready_readable c.requires.0) c.requires.1.known c.requires.2 c.requires.3 here c.args.value c.child-to.ensures c.edge_of.ensures))
 
 pub loop-left-init : goal.loop-left-init
 loop-left-init t c =
     let tests : c.is_before.result ≡ is_before (table_of c.args.used (store c.args.nodes.now c.args.children.now c.args.cuts.now)) c.args.v c.args.id.0 = let pre· = c.requires in before_is (ready_readable pre·.0) _ pre·.1.known pre·.3 c.is_before.ensures in
-    let node : 2 ≤ c.args.id.0 = let start = c in before_is_node start.requires.0 start.requires.1 start.requires.3 (restricts start.args.v start.args.value) tests c.if-not-is_before.false-raw in
-    let entered : Entered c.args.v (restricting c.args.value) c.args.used (store c.args.nodes.now c.args.children.now c.args.cuts.now) c.args.index.now c.args.memo.now c.args.ahead c.args.id.0 c.variable-u.result c.view_of-a.result = let start = c in let at-if1 = c in record { known = start.requires.3; changes = (restricts start.args.v start.args.value); ready = start.requires.0; asked = start.requires.1; before = still_before tests c.if-not-is_before.false-raw; variable = variable_is (ready_readable start.requires.0) _ start.requires.1.known node c.variable-u.ensures; view = sees_views (ready_readable start.requires.0) _ start.requires.1.known (variable_known (ready_readable start.requires.0) _ start.requires.1.known node c.variable-u.ensures) c.view_of-a.ensures } in
+    let node : 2 ≤ c.args.id.0 = before_is_node c.requires.0 c.requires.1 c.requires.3 (restricts c.args.v c.args.value) tests c.if-not-is_before.false-raw in
+    let entered : Entered c.args.v (restricting c.args.value) c.args.used (store c.args.nodes.now c.args.children.now c.args.cuts.now) c.args.index.now c.args.memo.now c.args.ahead c.args.id.0 c.variable-u.result c.view_of-a.result = record { known = c.requires.3; changes = (restricts c.args.v c.args.value); ready = c.requires.0; asked = c.requires.1; before = still_before tests c.if-not-is_before.false-raw; variable = variable_is (ready_readable c.requires.0) _ c.requires.1.known node c.variable-u.ensures; view = sees_views (ready_readable c.requires.0) _ c.requires.1.known (variable_known (ready_readable c.requires.0) _ c.requires.1.known node c.variable-u.ensures) c.view_of-a.ensures } in
     gather_before_first entered c.new-out.result c.new-out.ensures.0
 
 pub overflow_sub-ahead : goal.overflow_sub-ahead
@@ -34,27 +33,27 @@ overflow_sub-ahead t c = let pre· = c.requires in
 pub restrict_from-m-requires : goal.restrict_from-m-requires
 restrict_from-m-requires t c =
     let tests : c.is_before.result ≡ is_before (table_of c.args.used (store c.args.nodes.now c.args.children.now c.args.cuts.now)) c.args.v c.args.id.0 = let pre· = c.requires in before_is (ready_readable pre·.0) _ pre·.1.known pre·.3 c.is_before.ensures in
-    let node : 2 ≤ c.args.id.0 = let start = c in before_is_node start.requires.0 start.requires.1 start.requires.3 (restricts start.args.v start.args.value) tests c.if-not-is_before.false-raw in
-    let entered : Entered c.args.v (restricting c.args.value) c.args.used (store c.args.nodes.now c.args.children.now c.args.cuts.now) c.args.index.now c.args.memo.now c.args.ahead c.args.id.0 c.variable-u.result c.view_of-a.result = let start = c in let at-if1 = c in record { known = start.requires.3; changes = (restricts start.args.v start.args.value); ready = start.requires.0; asked = start.requires.1; before = still_before tests c.if-not-is_before.false-raw; variable = variable_is (ready_readable start.requires.0) _ start.requires.1.known node c.variable-u.ensures; view = sees_views (ready_readable start.requires.0) _ start.requires.1.known (variable_known (ready_readable start.requires.0) _ start.requires.1.known node c.variable-u.ensures) c.view_of-a.ensures } in
+    let node : 2 ≤ c.args.id.0 = before_is_node c.requires.0 c.requires.1 c.requires.3 (restricts c.args.v c.args.value) tests c.if-not-is_before.false-raw in
+    let entered : Entered c.args.v (restricting c.args.value) c.args.used (store c.args.nodes.now c.args.children.now c.args.cuts.now) c.args.index.now c.args.memo.now c.args.ahead c.args.id.0 c.variable-u.result c.view_of-a.result = record { known = c.requires.3; changes = (restricts c.args.v c.args.value); ready = c.requires.0; asked = c.requires.1; before = still_before tests c.if-not-is_before.false-raw; variable = variable_is (ready_readable c.requires.0) _ c.requires.1.known node c.variable-u.ensures; view = sees_views (ready_readable c.requires.0) _ c.requires.1.known (variable_known (ready_readable c.requires.0) _ c.requires.1.known node c.variable-u.ensures) c.view_of-a.ensures } in
     (omega (arith, c.decreases, call_left (ready_readable c.requires.0) _ c.requires.1), (c.loop-left.invariant.ready, below_asked entered c.loop-left.invariant c.loop-left-test.true c.turn-i.ensures c.child-x.ensures, c.requires.2, c.requires.3))
 
 pub loop-left-preserved : goal.loop-left-preserved
 loop-left-preserved t c =
     let tests : c.is_before.result ≡ is_before (table_of c.args.used (store c.args.nodes.now c.args.children.now c.args.cuts.now)) c.args.v c.args.id.0 = let pre· = c.requires in before_is (ready_readable pre·.0) _ pre·.1.known pre·.3 c.is_before.ensures in
-    let node : 2 ≤ c.args.id.0 = let start = c in before_is_node start.requires.0 start.requires.1 start.requires.3 (restricts start.args.v start.args.value) tests c.if-not-is_before.false-raw in
-    let entered : Entered c.args.v (restricting c.args.value) c.args.used (store c.args.nodes.now c.args.children.now c.args.cuts.now) c.args.index.now c.args.memo.now c.args.ahead c.args.id.0 c.variable-u.result c.view_of-a.result = let start = c in let at-if1 = c in record { known = start.requires.3; changes = (restricts start.args.v start.args.value); ready = start.requires.0; asked = start.requires.1; before = still_before tests c.if-not-is_before.false-raw; variable = variable_is (ready_readable start.requires.0) _ start.requires.1.known node c.variable-u.ensures; view = sees_views (ready_readable start.requires.0) _ start.requires.1.known (variable_known (ready_readable start.requires.0) _ start.requires.1.known node c.variable-u.ensures) c.view_of-a.ensures } in
+    let node : 2 ≤ c.args.id.0 = before_is_node c.requires.0 c.requires.1 c.requires.3 (restricts c.args.v c.args.value) tests c.if-not-is_before.false-raw in
+    let entered : Entered c.args.v (restricting c.args.value) c.args.used (store c.args.nodes.now c.args.children.now c.args.cuts.now) c.args.index.now c.args.memo.now c.args.ahead c.args.id.0 c.variable-u.result c.view_of-a.result = record { known = c.requires.3; changes = (restricts c.args.v c.args.value); ready = c.requires.0; asked = c.requires.1; before = still_before tests c.if-not-is_before.false-raw; variable = variable_is (ready_readable c.requires.0) _ c.requires.1.known node c.variable-u.ensures; view = sees_views (ready_readable c.requires.0) _ c.requires.1.known (variable_known (ready_readable c.requires.0) _ c.requires.1.known node c.variable-u.ensures) c.view_of-a.ensures } in
     gather_after_turn entered c.loop-left.invariant c.loop-left-test.true c.turn-i.ensures c.child-x.ensures c.cut_of-k.ensures c.restrict_from-m.ensures c.left_after-left.ensures
 
 pub node_over-requires : goal.node_over-requires
 node_over-requires t c =
     let tests : c.is_before.result ≡ is_before (table_of c.args.used (store c.args.nodes.now c.args.children.now c.args.cuts.now)) c.args.v c.args.id.0 = let pre· = c.requires in before_is (ready_readable pre·.0) _ pre·.1.known pre·.3 c.is_before.ensures in
-    let node : 2 ≤ c.args.id.0 = let start = c in before_is_node start.requires.0 start.requires.1 start.requires.3 (restricts start.args.v start.args.value) tests c.if-not-is_before.false-raw in
-    let entered : Entered c.args.v (restricting c.args.value) c.args.used (store c.args.nodes.now c.args.children.now c.args.cuts.now) c.args.index.now c.args.memo.now c.args.ahead c.args.id.0 c.variable-u.result c.view_of-a.result = let start = c in let at-if1 = c in record { known = start.requires.3; changes = (restricts start.args.v start.args.value); ready = start.requires.0; asked = start.requires.1; before = still_before tests c.if-not-is_before.false-raw; variable = variable_is (ready_readable start.requires.0) _ start.requires.1.known node c.variable-u.ensures; view = sees_views (ready_readable start.requires.0) _ start.requires.1.known (variable_known (ready_readable start.requires.0) _ start.requires.1.known node c.variable-u.ensures) c.view_of-a.ensures } in
+    let node : 2 ≤ c.args.id.0 = before_is_node c.requires.0 c.requires.1 c.requires.3 (restricts c.args.v c.args.value) tests c.if-not-is_before.false-raw in
+    let entered : Entered c.args.v (restricting c.args.value) c.args.used (store c.args.nodes.now c.args.children.now c.args.cuts.now) c.args.index.now c.args.memo.now c.args.ahead c.args.id.0 c.variable-u.result c.view_of-a.result = record { known = c.requires.3; changes = (restricts c.args.v c.args.value); ready = c.requires.0; asked = c.requires.1; before = still_before tests c.if-not-is_before.false-raw; variable = variable_is (ready_readable c.requires.0) _ c.requires.1.known node c.variable-u.ensures; view = sees_views (ready_readable c.requires.0) _ c.requires.1.known (variable_known (ready_readable c.requires.0) _ c.requires.1.known node c.variable-u.ensures) c.view_of-a.ensures } in
     (c.loop-left.invariant.ready.lent, c.loop-left.invariant.ready.long, c.loop-left.invariant.ready.recalled.framed, known_small c.requires.0.lent c.requires.1.known, entered_mergeable entered c.loop-left.invariant (omega (arith, c.loop-left-test.false)))
 
 pub returns : goal.returns
 returns t c =
     let tests : c.is_before.result ≡ is_before (table_of c.args.used (store c.args.nodes.now c.args.children.now c.args.cuts.now)) c.args.v c.args.id.0 = let pre· = c.requires in before_is (ready_readable pre·.0) _ pre·.1.known pre·.3 c.is_before.ensures in
-    let node : 2 ≤ c.args.id.0 = let start = c in before_is_node start.requires.0 start.requires.1 start.requires.3 (restricts start.args.v start.args.value) tests c.if-not-is_before.false-raw in
-    let entered : Entered c.args.v (restricting c.args.value) c.args.used (store c.args.nodes.now c.args.children.now c.args.cuts.now) c.args.index.now c.args.memo.now c.args.ahead c.args.id.0 c.variable-u.result c.view_of-a.result = let start = c in let at-if1 = c in record { known = start.requires.3; changes = (restricts start.args.v start.args.value); ready = start.requires.0; asked = start.requires.1; before = still_before tests c.if-not-is_before.false-raw; variable = variable_is (ready_readable start.requires.0) _ start.requires.1.known node c.variable-u.ensures; view = sees_views (ready_readable start.requires.0) _ start.requires.1.known (variable_known (ready_readable start.requires.0) _ start.requires.1.known node c.variable-u.ensures) c.view_of-a.ensures } in
+    let node : 2 ≤ c.args.id.0 = before_is_node c.requires.0 c.requires.1 c.requires.3 (restricts c.args.v c.args.value) tests c.if-not-is_before.false-raw in
+    let entered : Entered c.args.v (restricting c.args.value) c.args.used (store c.args.nodes.now c.args.children.now c.args.cuts.now) c.args.index.now c.args.memo.now c.args.ahead c.args.id.0 c.variable-u.result c.view_of-a.result = record { known = c.requires.3; changes = (restricts c.args.v c.args.value); ready = c.requires.0; asked = c.requires.1; before = still_before tests c.if-not-is_before.false-raw; variable = variable_is (ready_readable c.requires.0) _ c.requires.1.known node c.variable-u.ensures; view = sees_views (ready_readable c.requires.0) _ c.requires.1.known (variable_known (ready_readable c.requires.0) _ c.requires.1.known node c.variable-u.ensures) c.view_of-a.ensures } in
     stepped_after_last entered c.loop-left.invariant (omega (arith, c.loop-left-test.false)) c.node_over.ensures

@@ -11,9 +11,7 @@ returns-then-both_open c = let pre· = c.requires in
     worked_adds_nothing pre·.0 pre·.2 _ (widen_all pre·.0 _ _ pre·.3 pre·.4 (c.both_open.ensures c.if-both_open.true))
 
 pub returns-then-is_empty : goal.returns-then-is_empty
-returns-then-is_empty c = let start = c in
-    worked_adds_nothing start.requires.0 start.requires.2 _ (widen_none start.requires.0 _ _ start.requires.3 start.requires.4 c.from_bounds-range.ensures (held_keyed start.args.lower start.well_formed.1.1.1.1.1.1.1.1.0) (held_keyed start.args.upper start.well_formed.1.1.1.1.1.1.1.1.1.0) (range_last_lt_first c.is_empty.ensures c.if-is_empty.true))
+returns-then-is_empty c = worked_adds_nothing c.requires.0 c.requires.2 _ (widen_none c.requires.0 _ _ c.requires.3 c.requires.4 c.from_bounds-range.ensures (held_keyed c.args.lower c.well_formed.1.1.1.1.1.1.1.1.0) (held_keyed c.args.upper c.well_formed.1.1.1.1.1.1.1.1.1.0) (range_last_lt_first c.is_empty.ensures c.if-is_empty.true))
 
 pub returns : goal.returns
-returns c = let start = c in
-    worked_when_finished start.requires.0 (stepped_equal_want c.widen_from-m.ensures (widen_bounded c.from_bounds-range.ensures (held_keyed start.args.lower start.well_formed.1.1.1.1.1.1.1.1.0) (held_keyed start.args.upper start.well_formed.1.1.1.1.1.1.1.1.1.0) _ _ _ (range_first_le_last c.is_empty.ensures c.if-is_empty.false))) c.finish.ensures
+returns c = worked_when_finished c.requires.0 (stepped_equal_want c.widen_from-m.ensures (widen_bounded c.from_bounds-range.ensures (held_keyed c.args.lower c.well_formed.1.1.1.1.1.1.1.1.0) (held_keyed c.args.upper c.well_formed.1.1.1.1.1.1.1.1.1.0) _ _ _ (range_first_le_last c.is_empty.ensures c.if-is_empty.false))) c.finish.ensures

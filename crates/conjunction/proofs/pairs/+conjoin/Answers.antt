@@ -47,8 +47,7 @@ pub apply-returns : goal.apply-returns
 apply-returns t c = let back = not (eqb c.args.a.count c.args.b.count) in by_tests c.args.used (store c.args.nodes.now c.args.children.now c.args.cuts.now) c.args.memo.now c.args.a c.args.b c.args.v c.args.ahead c.if-v-lt-FIRST_BOOLEAN.false (stepped_pair_built (conj_walk _ _) c.requires.0 c.if-v-lt-FIRST_BOOLEAN.false c.requires.1 back (half_child_read _ c.args.a back c.child-x.ensures c.edge_of.ensures) (half_child_read _ c.args.b back c.child-y.ensures c.edge_of-2.ensures) c.conjoin-m.ensures (not-false _ c.if-not-m.false) (half_child_stays c.conjoin-m.ensures c.args.a (not back) c.requires.1.left c.child-x-2.ensures c.edge_of-3.ensures) (half_child_stays c.conjoin-m.ensures c.args.b (not back) c.requires.1.right c.child-y-2.ensures c.edge_of-4.ensures) c.conjoin-m-2.ensures (not-false _ c.if-not-m-2.false) c.first_unless-high.ensures c.first_unless-low.ensures c.create_pair.ensures.outcome)
 
 pub apply_ranges-loop-more-init : goal.apply_ranges-loop-more-init
-apply_ranges-loop-more-init t c = let start = c in
-    loop_starts (conj_walk _ _) start.args.used (store start.args.nodes.now start.args.children.now start.args.cuts.now) start.args.memo.now start.args.a start.args.b start.requires.0 start.requires.1 start.requires.2 c.new-out.result c.new-out.ensures.0 _
+apply_ranges-loop-more-init t c = loop_starts (conj_walk _ _) c.args.used (store c.args.nodes.now c.args.children.now c.args.cuts.now) c.args.memo.now c.args.a c.args.b c.requires.0 c.requires.1 c.requires.2 c.new-out.result c.new-out.ensures.0 _
 
 pub apply_ranges-child-x-requires : goal.apply_ranges-child-x-requires
 apply_ranges-child-x-requires t c = let pre· = c.requires in
@@ -88,21 +87,17 @@ pub apply_ranges-overflow_add-j : goal.apply_ranges-overflow_add-j
 apply_ranges-overflow_add-j t c = omega (arith, sides_small (conj_walk _ _) c.args.used (store c.args.nodes.now c.args.children.now c.args.cuts.now) c.args.memo.now c.args.a c.args.b c.requires.0 c.requires.1 c.requires.2 c.loop-more.invariant c.loop-more-test.true c.child-x.ensures c.child-y.ensures c.cut-k.ensures c.cut-l.ensures c.conjoin-m.ensures c.slot_for.ensures c.advance-s.ensures)
 
 pub apply_ranges-loop-more-smaller : goal.apply_ranges-loop-more-smaller
-apply_ranges-loop-more-smaller t c = let start = c in
-    loop_falls (conj_walk _ _) start.args.used (store start.args.nodes.now start.args.children.now start.args.cuts.now) start.args.memo.now start.args.a start.args.b start.requires.0 start.requires.1 start.requires.2 c.loop-more.invariant c.loop-more-test.true c.child-x.ensures c.child-y.ensures c.cut-k.ensures c.cut-l.ensures c.conjoin-m.ensures c.slot_for.ensures c.advance-s.ensures
+apply_ranges-loop-more-smaller t c = loop_falls (conj_walk _ _) c.args.used (store c.args.nodes.now c.args.children.now c.args.cuts.now) c.args.memo.now c.args.a c.args.b c.requires.0 c.requires.1 c.requires.2 c.loop-more.invariant c.loop-more-test.true c.child-x.ensures c.child-y.ensures c.cut-k.ensures c.cut-l.ensures c.conjoin-m.ensures c.slot_for.ensures c.advance-s.ensures
 
 pub apply_ranges-loop-more-preserved : goal.apply_ranges-loop-more-preserved
-apply_ranges-loop-more-preserved t c = let start = c in
-    loop_step (conj_walk _ _) start.args.used (store start.args.nodes.now start.args.children.now start.args.cuts.now) start.args.memo.now start.args.a start.args.b start.requires.0 start.requires.1 start.requires.2 c.loop-more.invariant c.loop-more-test.true c.child-x.ensures c.child-y.ensures c.cut-k.ensures c.cut-l.ensures c.conjoin-m.ensures c.slot_for.ensures c.advance-s.ensures
+apply_ranges-loop-more-preserved t c = loop_step (conj_walk _ _) c.args.used (store c.args.nodes.now c.args.children.now c.args.cuts.now) c.args.memo.now c.args.a c.args.b c.requires.0 c.requires.1 c.requires.2 c.loop-more.invariant c.loop-more-test.true c.child-x.ensures c.child-y.ensures c.cut-k.ensures c.cut-l.ensures c.conjoin-m.ensures c.slot_for.ensures c.advance-s.ensures
 
 pub apply_ranges-settle-requires : goal.apply_ranges-settle-requires
-apply_ranges-settle-requires t c = let start = c in
-    let loop· = c.loop-more in
-    (loop·.invariant.ready.lent, closed_buildable (conj_walk _ _) start.args.used (store start.args.nodes.now start.args.children.now start.args.cuts.now) start.args.memo.now start.args.a start.args.b start.requires.0 start.requires.1 start.requires.2 loop·.invariant c.loop-more-test.false (c.if-not-ok.false))
+apply_ranges-settle-requires t c = let loop· = c.loop-more in
+    (loop·.invariant.ready.lent, closed_buildable (conj_walk _ _) c.args.used (store c.args.nodes.now c.args.children.now c.args.cuts.now) c.args.memo.now c.args.a c.args.b c.requires.0 c.requires.1 c.requires.2 loop·.invariant c.loop-more-test.false (c.if-not-ok.false))
 
 pub apply_ranges-returns : goal.apply_ranges-returns
-apply_ranges-returns t c = let start = c in
-    stepped_when_closed (conj_walk _ _) start.args.used (store start.args.nodes.now start.args.children.now start.args.cuts.now) start.args.memo.now start.args.a start.args.b start.requires.0 start.requires.1 start.requires.2 c.loop-more.invariant c.loop-more-test.false (c.if-not-ok.false) c.settle.ensures.outcome
+apply_ranges-returns t c = stepped_when_closed (conj_walk _ _) c.args.used (store c.args.nodes.now c.args.children.now c.args.cuts.now) c.args.memo.now c.args.a c.args.b c.requires.0 c.requires.1 c.requires.2 c.loop-more.invariant c.loop-more-test.false (c.if-not-ok.false) c.settle.ensures.outcome
 
 pub conjoin-returns-then-s : goal.conjoin-returns-then-s
 conjoin-returns-then-s t c = let pre· = c.requires in

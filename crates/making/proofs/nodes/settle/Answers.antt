@@ -16,12 +16,10 @@ pub returns-then-es-eq2 : goal.returns-then-es-eq2
 returns-then-es-eq2 c = rw (array_as_two c.args.es c.if-es-eq2.true) at c.settle_two.ensures
 
 pub hash_edges-h-requires : goal.hash_edges-h-requires
-hash_edges-h-requires c = let start = c in
-    (start.requires.1.building, start.requires.1.known, cut_small start.args.v start.args.es start.requires.1.reduced)
+hash_edges-h-requires c = (c.requires.1.building, c.requires.1.known, cut_small c.args.v c.args.es c.requires.1.reduced)
 
 pub known-requires : goal.known-requires
-known-requires c = let start = c in
-    ref_small start.requires.0 start.args.v start.args.es _ _ (c.find-s.ensures _ start.requires.0.sound).at_is
+known-requires c = ref_small c.requires.0 c.args.v c.args.es _ _ (c.find-s.ensures _ c.requires.0.sound).at_is
 
 pub returns-then-s-gt0 : goal.returns-then-s-gt0
 returns-then-s-gt0 c = found_one c.requires.0 c.args.v c.args.es (omega (arith, c.if-es-eq1.false, c.requires.1.building.some)) refl _ c.if-s-gt0.true (c.find-s.ensures _ c.requires.0.sound).at_is c.known.ensures
