@@ -3,6 +3,8 @@
 
 #![tactic(auto)]
 
+ghost use Rattle.std.specs.Prelude.{◌≤◌, length};
+
 use std::io::Read;
 use std::rt::Env;
 use std::{env, io};

@@ -6,7 +6,7 @@
 
 #![tactic(auto)]
 
-mod conditions;
+mod condition_exports;
 pub mod numbers;
 mod operations;
 mod tables;
