@@ -100,10 +100,10 @@ fn rest_compared(
     n: usize,
     v: usize,
     lead: NodeId,
-    es: Edges,
+    es: &Edges,
 ) -> usize
-    requires { (n * 4 + 4 ≤ length nodes.now) × (length cuts.now ≡ length children.now) × (Rules (store nodes.now children.now cuts.now) n) × (Building es) × (2 ≤ es.len) × (count_at nodes.now n ≡ es.len) }
-    ensures { Ordered (rest_at (store nodes.now children.now cuts.now) n es.len) (rest_in v (sign lead.0) es) result }
+    requires { (n * 4 + 4 ≤ length nodes.now) × (length cuts.now ≡ length children.now) × (Rules (store nodes.now children.now cuts.now) n) × (Building es.now) × (2 ≤ es.now.len) × (count_at nodes.now n ≡ es.now.len) }
+    ensures { Ordered (rest_at (store nodes.now children.now cuts.now) n es.now.len) (rest_in v (sign lead.0) es.now) result }
 {
     let count = es.len;
     let first = first_of(nodes, n);
@@ -217,11 +217,11 @@ pub fn find(
     index: &[u32],
     v: usize,
     lead: NodeId,
-    es: Edges,
+    es: &Edges,
     h: usize,
 ) -> Spot
-    requires { (Allowed (store nodes.now children.now cuts.now) index.now) × (Findable (store nodes.now children.now cuts.now) index.now v es) × (2 ≤ es.len) × (h ≡ hash_in v (sign lead.0) es es.len) }
-    ensures { (u : ℕ) → SoundLent (store nodes.now children.now cuts.now) index.now u → Finds (store nodes.now children.now cuts.now) u v (sign lead.0) es result }
+    requires { (Allowed (store nodes.now children.now cuts.now) index.now) × (Findable (store nodes.now children.now cuts.now) index.now v es.now) × (2 ≤ es.now.len) × (h ≡ hash_in v (sign lead.0) es.now es.now.len) }
+    ensures { (u : ℕ) → SoundLent (store nodes.now children.now cuts.now) index.now u → Finds (store nodes.now children.now cuts.now) u v (sign lead.0) es.now result }
 {
     let a = es.list[0];
     let b = es.list[1];

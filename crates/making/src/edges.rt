@@ -115,9 +115,9 @@ pub fn stored_cut(v: usize, j: usize, count: usize, cut: usize) -> i64
 }
 
 // The hash of a node under construction, its children seen under the sign of `lead`.
-pub fn hash_edges(v: usize, lead: NodeId, es: Edges) -> usize
-    requires { (Building es) × (v < variables) × ((j : ℕ) → j + 1 < es.len → cut_in es j < 8589934593) }
-    ensures { (result ≡ hash_in v (sign lead.0) es es.len) × (result < 4294967296) }
+pub fn hash_edges(v: usize, lead: NodeId, es: &Edges) -> usize
+    requires { (Building es.now) × (v < variables) × ((j : ℕ) → j + 1 < es.now.len → cut_in es.now j < 8589934593) }
+    ensures { (result ≡ hash_in v (sign lead.0) es.now es.now.len) × (result < 4294967296) }
 {
     let n = es.len;
     let mut h = v;

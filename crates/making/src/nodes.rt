@@ -46,9 +46,9 @@ fn known(at: usize, lead: NodeId, used: Used) -> Made
 }
 
 // Writes the edges of a node from edge e on.
-fn put_edges(children: &mut [u32], cuts: &mut [i64], e: usize, v: usize, lead: NodeId, es: Edges)
-    requires { (Building es) × (e + es.len ≤ length children.old) × (length cuts.old ≡ length children.old) × ((j : ℕ) → j + 1 < es.len → cut_in es j < 8589934593) }
-    ensures { EdgesPut children.old cuts.old e v (sign lead.0) es children.new cuts.new }
+fn put_edges(children: &mut [u32], cuts: &mut [i64], e: usize, v: usize, lead: NodeId, es: &Edges)
+    requires { (Building es.now) × (e + es.now.len ≤ length children.old) × (length cuts.old ≡ length children.old) × ((j : ℕ) → j + 1 < es.now.len → cut_in es.now j < 8589934593) }
+    ensures { EdgesPut children.old cuts.old e v (sign lead.0) es.now children.new cuts.new }
 {
     let count = es.len;
     let mut j = 0;
@@ -135,12 +135,12 @@ fn add(
     used: Used,
     v: usize,
     lead: NodeId,
-    es: Edges,
+    es: &Edges,
     h: usize,
     s: Spot,
 ) -> Used
-    requires { (Lent used (store nodes.old children.old cuts.old) index.old) × (Buildable (table_of used (store nodes.old children.old cuts.old)) v es) × (2 ≤ es.len) × (lead.0 ≡ child_in es 0) × (h ≡ hash_in v (sign lead.0) es es.len) × (Finds (store nodes.old children.old cuts.old) used.nodes v (sign lead.0) es s) × (s.at ≡ 0) × (used.nodes < room nodes.old) × (used.edges + es.len ≤ length children.old) }
-    ensures { Added used (node_of v (sign lead.0) es) result (store nodes.old children.old cuts.old) (store nodes.new children.new cuts.new) index.new }
+    requires { (Lent used (store nodes.old children.old cuts.old) index.old) × (Buildable (table_of used (store nodes.old children.old cuts.old)) v es.now) × (2 ≤ es.now.len) × (lead.0 ≡ child_in es.now 0) × (h ≡ hash_in v (sign lead.0) es.now es.now.len) × (Finds (store nodes.old children.old cuts.old) used.nodes v (sign lead.0) es.now s) × (s.at ≡ 0) × (used.nodes < room nodes.old) × (used.edges + es.now.len ≤ length children.old) }
+    ensures { Added used (node_of v (sign lead.0) es.now) result (store nodes.old children.old cuts.old) (store nodes.new children.new cuts.new) index.new }
 {
     put_edges(children, cuts, used.edges, v, lead, es);
     enter(nodes, index, used, v, es.len, h, s)
@@ -189,12 +189,12 @@ pub fn extend(
     used: Used,
     v: usize,
     lead: NodeId,
-    es: Edges,
+    es: &Edges,
     h: usize,
     s: Spot,
 ) -> Made
-    requires { (Lent used (store nodes.old children.old cuts.old) index.old) × (Buildable (table_of used (store nodes.old children.old cuts.old)) v es) × (2 ≤ es.len) × (lead.0 ≡ child_in es 0) × (h ≡ hash_in v (sign lead.0) es es.len) × (Finds (store nodes.old children.old cuts.old) used.nodes v (sign lead.0) es s) × (s.at ≡ 0) }
-    ensures { Creates used (settled (table_of used (store nodes.old children.old cuts.old)) v (pieces_of es)) result (store nodes.old children.old cuts.old) index.old (store nodes.new children.new cuts.new) index.new }
+    requires { (Lent used (store nodes.old children.old cuts.old) index.old) × (Buildable (table_of used (store nodes.old children.old cuts.old)) v es.now) × (2 ≤ es.now.len) × (lead.0 ≡ child_in es.now 0) × (h ≡ hash_in v (sign lead.0) es.now es.now.len) × (Finds (store nodes.old children.old cuts.old) used.nodes v (sign lead.0) es.now s) × (s.at ≡ 0) }
+    ensures { Creates used (settled (table_of used (store nodes.old children.old cuts.old)) v (pieces_of es.now)) result (store nodes.old children.old cuts.old) index.old (store nodes.new children.new cuts.new) index.new }
 {
     if !has_room(nodes.len() / RECORD_WORDS, children.len(), used, es.len) {
         return Made {
@@ -298,13 +298,13 @@ pub fn settle(
     }
     // "Flip if the first child is complemented", since a node and its flipped twin would be two ids for one condition. No copy is made:
     // the node is hashed, compared and stored with each child seen under the sign of the first, and its id gets that sign.
-    let h = hash_edges(v, lead, es);
+    let h = hash_edges(v, lead, &es);
     // Looked for before room is asked for: a full table still answers with the nodes that it has (C16).
-    let s = find(nodes, children, cuts, index, v, lead, es, h);
+    let s = find(nodes, children, cuts, index, v, lead, &es, h);
     if 0 < s.at {
         return known(s.at, lead, used);
     }
-    extend(nodes, children, cuts, index, used, v, lead, es, h, s)
+    extend(nodes, children, cuts, index, used, v, lead, &es, h, s)
 }
 
 // Node making, from edges whose neighbours may still agree: "neighbouring edges with equal children are merged first". `create_node` of the
