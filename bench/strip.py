@@ -3,9 +3,9 @@
 contracts, as modules of one plain Rust crate OUT_DIR/lib.rs, and bench/calls.txt as module `calls`.
 
 Strips `requires {..}`, `ensures {..}`, `invariant {..}`, `decreases {..}`/`variant {..}` (balanced braces), `ghost ...;` and
-`ghost {..}`; leaves everything else as it stands, but: `ids::X` becomes `crate::ids::X`, and so for each crate; structs and enums get
-#[derive(Clone, Copy)] (Rattle's are plain data); every module is public, and no function is exported under its bare name, so that it is
-called by its path and the archive of what `rt` compiled can be linked beside it."""
+`ghost {..}`, and the attributes `tactic` and `cycle`; leaves everything else as it stands, but: `ids::X` becomes `crate::ids::X`, and so
+for each crate; every module is public, and no function is exported under its bare name, so that it is called by its path and the archive
+of what `rt` compiled can be linked beside it."""
 import os, re, sys
 
 CLAUSE = re.compile(r"(requires|ensures|invariant|decreases|variant|maintains)\b\s*\{")
@@ -50,8 +50,8 @@ def strip(s, crates):
         out.append(s[i]); i += 1
     t = "".join(out)
     t = re.sub(r"(?<![\w:])(" + "|".join(crates) + ")::", r"crate::\1::", t)
-    t = re.sub(r"^(\s*)(pub )?(struct|enum) ", r"\1#[derive(Clone, Copy)]\n\1\2\3 ", t, flags=re.M)
-    t = re.sub(r"^mod ", "pub mod ", t, flags=re.M).replace("#[no_mangle]\n", "")
+    t = re.sub(r"^#!?\[(tactic|cycle)\(.*\)\]\n", "", t, flags=re.M)
+    t = re.sub(r"^mod ", "pub mod ", t, flags=re.M).replace("#[unsafe(no_mangle)]\n", "")
     t = re.sub(r"[ \t]+\n", "\n", t)
     return re.sub(r"\n{3,}", "\n\n", t).lstrip("\n")
 
@@ -62,7 +62,7 @@ def put(src, dst, crates):
 
 def libraries(repo):
     """The crates of crates.txt, up to `spanwhistle`."""
-    listed = re.findall(r"^(\w+):", open(os.path.join(repo, "crates.txt"), encoding="utf-8").read(), flags=re.M)
+    listed = re.findall(r"^(\w+)(?: \w+)*:", open(os.path.join(repo, "crates.txt"), encoding="utf-8").read(), flags=re.M)
     return listed[:listed.index("spanwhistle") + 1]
 
 def main():

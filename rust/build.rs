@@ -1,4 +1,4 @@
-//! Links the kernel, libspanwhistle.a, from the folder that SPANWHISTLE_LIB names, or from where `rt staticlib spanwhistle` puts it. Where
+//! Links the kernel, libspanwhistle.a, from the folder that SPANWHISTLE_LIB names, or from where `tools/build spanwhistle` puts it. Where
 //! it is not there this only warns, so that `cargo doc` and `cargo check` do without it; what links then fails, after the warning.
 use std::env;
 use std::path::PathBuf;
@@ -14,7 +14,7 @@ fn main() {
     println!("cargo:rerun-if-changed={}", archive.display());
     if !archive.exists() {
         println!(
-            "cargo:warning={} is not there: run `rt staticlib spanwhistle`, or set SPANWHISTLE_LIB to its folder",
+            "cargo:warning={} is not there: run `tools/build spanwhistle`, or set SPANWHISTLE_LIB to its folder",
             archive.display()
         );
     }

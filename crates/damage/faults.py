@@ -78,10 +78,15 @@ def faults():
 
 
 def tried(root):
-    """None where all is as expected, else what `rt try` says first."""
-    run = subprocess.run(["rt", "try", "damage"], cwd=root, capture_output=True, text=True, timeout=300)
+    """None where all is as expected, else FAIL and why where the program ran, or what `rt try` says first where it did not."""
+    folder = os.path.join(root, "crates/damage")
+    run = subprocess.run(["rt", "try"], cwd=folder, capture_output=True, text=True, timeout=300)
+    with open(os.path.join(folder, "stdout"), encoding="utf-8") as file:
+        wanted = file.read()
+    if run.returncode == 0:
+        return None if run.stdout == wanted else "FAIL: it writes something else"
     said = (run.stdout + run.stderr).strip().split("\n")
-    return None if run.returncode == 0 else said[0]
+    return "FAIL: it does not end well" if run.returncode in (4, 5, 6) else said[0]
 
 
 def verdict(root, fault):
@@ -100,7 +105,7 @@ def main():
         apply_all(faults())
     verdicts = []
     with tempfile.TemporaryDirectory() as root:
-        shutil.copytree(os.path.join(ROOT, "crates"), os.path.join(root, "crates"))
+        shutil.copytree(os.path.join(ROOT, "crates"), os.path.join(root, "crates"), ignore=shutil.ignore_patterns("out"))
         shutil.copy(os.path.join(ROOT, "crates.txt"), root)
         assert tried(root) is None, "the program fails with no fault in it"
         for fault in faults():

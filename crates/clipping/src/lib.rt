@@ -8,7 +8,7 @@ ghost use Rattle.ranges.specs.Line.{top};
 ghost use Rattle.diagram.specs.Shape.{Rising};
 ghost use Rattle.diagram.specs.Table.{first_boolean, top_of};
 ghost use Rattle.algebra.specs.Overlay.{above};
-ghost use Rattle.algebra.specs.Changing.{narrowed as narrowedPieces, widened as widenedPieces};
+ghost use Rattle.algebra.specs.Changing.{narrowed as narrowed_pieces, widened as widened_pieces};
 ghost use Rattle.making.specs.Building.{Building, pieces_of};
 ghost use Rattle.views.specs.Seeing.{Inside, seen};
 ghost use Rattle.clipping.specs.Clipping.{Clips, Gathered, Closes};
@@ -42,7 +42,7 @@ fn first_past(cuts: &[i64], a: View, lo: usize) -> usize
 // "The answer at a place is the old answer at the nearest place inside the bounds": the first and the last edge inside go on to the ends.
 pub fn narrowed(children: &[u32], cuts: &[i64], a: View, range: Range) -> Edges
     requires { (Inside (length children.now) a) × (length cuts.now ≡ length children.now) × (range.first ≤ top) × (range.last ≤ top) }
-    ensures { (Building result) × ((v : ℕ) → v < first_boolean → pieces_of result ≡ narrowedPieces range.first range.last (seen children.now cuts.now v a 0)) }
+    ensures { (Building result) × ((v : ℕ) → v < first_boolean → pieces_of result ≡ narrowed_pieces range.first range.last (seen children.now cuts.now v a 0)) }
 {
     let low = range.first as usize;
     let high = range.last as usize;
@@ -122,9 +122,11 @@ fn closed(edges: Edges, len: usize, last: NodeId, end: usize) -> Clip
 }
 
 // "Old answer and inside the bounds": FALSE below them, the old edges in them, FALSE above them, neighbours with equal children merged.
+// Not inlined, so that its arrays are off the stack again when a node is made of its answer.
+#[inline(never)]
 pub fn widened(children: &[u32], cuts: &[i64], a: View, range: Range) -> Clip
     requires { (Inside (length children.now) a) × (length cuts.now ≡ length children.now) × (range.first ≤ range.last) × (range.last ≤ top) }
-    ensures { (v : ℕ) → v < first_boolean → Rising 0 (top_of v) (seen children.now cuts.now v a 0) → Clips (widenedPieces range.first range.last (top_of v) (seen children.now cuts.now v a 0)) result }
+    ensures { (v : ℕ) → v < first_boolean → Rising 0 (top_of v) (seen children.now cuts.now v a 0) → Clips (widened_pieces range.first range.last (top_of v) (seen children.now cuts.now v a 0)) result }
 {
     let first = range.first as usize;
     let end = range.last as usize + 1;

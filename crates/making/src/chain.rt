@@ -70,6 +70,7 @@ fn edge_compared(children: &[u32], cuts: &[i64], i: usize, c: usize, k: usize) -
 }
 
 // How node n stands to one with this front, where the hashes of both are the same.
+#[tactic(auto, using(crate::proofs::Fronts::number_decided, crate::proofs::Fronts::number_further))]
 fn front_compared(nodes: &[u32], children: &[u32], cuts: &[i64], n: usize, f: Front) -> usize
     requires { (n * 4 + 4 ≤ length nodes.now) × (length cuts.now ≡ length children.now) × (Rules (store nodes.now children.now cuts.now) n) }
     ensures { Ordered (front_at (store nodes.now children.now cuts.now) n) (front_of f) result }

@@ -1,13 +1,14 @@
 // Reads a set of rules from standard input, and tells which of them can both hold in one delivery. README.md beside src/ has the language.
-// The last line is the verdict, one of three; `run` at the root makes the exit status of it, since a Rattle program has none.
+// The last line is the verdict, one of three; `run` at the root makes the exit status of it.
 
 #![tactic(auto)]
 
 ghost use Rattle.std.specs.Prelude.{◌≤◌, length};
 
+use std::env::FillError;
+use std::io;
 use std::io::Read;
 use std::rt::Env;
-use std::{env, io};
 
 mod characters;
 mod faults;
@@ -163,7 +164,7 @@ fn read_full(rt: &impl Input, buffer: &mut [u8]) -> usize
     ensures { result ≤ length buffer.new }
 {
     let mut done = 0;
-    for _ in 0..MOST_TEXT {
+    for _ in 0..buffer.len() {
         let n = rt.reader().read(&mut buffer[done..]).unwrap_or(0);
         if n == 0 {
             break;
@@ -196,23 +197,24 @@ fn read_and_compare(rt: &(impl Print + Input), all: bool) -> io::Result<Verdict>
 }
 
 // Without an argument the findings; with --all every pair and every rule.
-fn what_is_asked(rt: &(impl Env + Alloc)) -> io::Result<Asked> {
-    let mut words = match env::args(rt) {
-        Ok(words) => words,
-        // An argument that is no text is not `--all`.
-        Err(e) if e.kind() == io::ErrorKind::InvalidData => return Ok(Asked::Unknown),
-        Err(e) => return Err(e),
-    };
-    words.next();
-    match words.next() {
-        None => Ok(Asked::Findings),
-        Some(word) if word.as_str() == "--all" && words.next().is_none() => Ok(Asked::All),
-        Some(_) => Ok(Asked::Unknown),
+fn what_is_asked(rt: &impl Env) -> Asked {
+    let mut word = [0u8; 8];
+    let mut behind = [0u8; 1];
+    match rt.arg(1, &mut word) {
+        Err(FillError::NotPresent) => Asked::Findings,
+        Ok(n) if &word[..n] == b"--all".as_slice() && is_absent(rt.arg(2, &mut behind)) =>
+            Asked::All,
+        _ => Asked::Unknown,
     }
 }
 
+// Whether an argument is not there. One that is longer than its buffer is.
+fn is_absent(told: Result<usize, FillError>) -> bool {
+    matches!(told, Err(FillError::NotPresent))
+}
+
 fn main(rt: HostRuntime) -> io::Result<()> {
-    let verdict = match what_is_asked(&rt)? {
+    let verdict = match what_is_asked(&rt) {
         Asked::Findings => read_and_compare(&rt, false)?,
         Asked::All => read_and_compare(&rt, true)?,
         Asked::Unknown => {
