@@ -1,7 +1,7 @@
 /*
  * Spanwhistle: compares the conditions of correction rules exactly. This header is for C99 and C++; link target/staticlib/libspanwhistle.a,
  * which `tools/build spanwhistle` makes, or `tools/install` with a pkg-config file. The archive needs memcpy and memset and nothing else. It
- * has 35 KB of code and constants, if all calls are linked, and no data (35,409, 0 and 0 bytes of text, data and bss by `size`, x86-64).
+ * has 36 KB of code and constants, if all calls are linked, and no data (36,781, 0 and 0 bytes of text, data and bss by `size`, x86-64).
  *
  * WHAT A TABLE IS
  *
@@ -57,18 +57,18 @@
  * nothing (spanwhistle_check, spanwhistle_evaluate, spanwhistle_is_disjoint) on the same table too.
  *
  * Calls that walk down a table call themselves, once for each variable on the way, and most of them with an array of 64 edges each time
- * (`and` and `or` at range variables alone). They need a deep stack. Enough in our deepest test were 92,208 bytes for `restrict`, 83,392
- * for `and` and `or`, 52,944 for `widen`, 49,120 for `narrow`, 39,816 for `is_disjoint`, 2,944 for a condition and 400 for the rest. The
+ * (`and` and `or` at range variables alone). They need a deep stack. Enough in our deepest test were 84,856 bytes for `restrict`, 70,596
+ * for `and` and `or`, 47,880 for `widen`, 46,328 for `narrow`, 25,576 for `is_disjoint`, 2,744 for a condition and 336 for the rest. The
  * test is examples/stack.c: conditions over all 64 variables, on x86-64 with this project's compiler. It is measured and not proved, and
- * another machine has other figures. SPANWHISTLE_STACK_JOIN and the like are these, rounded up. Conditions that
+ * another machine has other figures. SPANWHISTLE_STACK_JOIN and the like are no less than these. Conditions that
  * test fewer variables take less:
  *
  *     variables         2       4       8      16      32      64
- *     and, or       4,496   8,496  16,496  32,496  64,496  83,392
- *     restrict      4,912   7,728  13,360  24,624  47,152  92,208
- *     narrow        4,976   7,824  13,520  24,912  47,696  49,120
- *     widen         8,744  11,592  17,288  28,680  51,464  52,944
- *     is_disjoint   5,096   6,216   8,456  12,936  21,896  39,816
+ *     and, or       3,928   7,416  14,392  28,344  56,248  70,596
+ *     restrict      4,504   7,096  12,280  22,648  43,384  84,856
+ *     narrow        5,656   8,280  13,528  24,024  45,016  46,328
+ *     widen         7,208   9,832  15,080  25,576  46,568  47,880
+ *     is_disjoint   4,568   5,240   6,584   9,272  14,648  25,576
  *
  * where all variables but one are ranges, as far as there are: a boolean takes `and` and `or` less, and narrow and widen go no deeper than
  * their variable. SPANWHISTLE_STACK_JOIN_OF(V) and the like are enough for V variables in the same test. What interrupts need on the same stack
@@ -149,7 +149,7 @@ static inline const char *spanwhistle_name(uint32_t number) {
 #define SPANWHISTLE_INCLUDES 1u
 #define SPANWHISTLE_EXCLUDES 2u
 
-/* Stack in bytes, measured and rounded up: see above. */
+/* Stack in bytes, no less than was measured: see above. */
 #define SPANWHISTLE_STACK_JOIN (88u * 1024u)     /* spanwhistle_and, spanwhistle_or */
 #define SPANWHISTLE_STACK_RESTRICT (96u * 1024u) /* spanwhistle_restrict */
 #define SPANWHISTLE_STACK_NARROW (56u * 1024u)   /* spanwhistle_narrow, spanwhistle_widen */
