@@ -2,13 +2,14 @@
 """strip.py SRC_REPO OUT_DIR: the libraries of a Rattle repository, which are those that crates.txt lists up to `spanwhistle`, without
 contracts, as modules of one plain Rust crate OUT_DIR/lib.rs, and bench/calls.txt as module `calls`.
 
-Strips `requires {..}`, `ensures {..}`, `invariant {..}`, `decreases {..}`/`variant {..}` (balanced braces), `ghost ...;` and
-`ghost {..}`, and the attributes `tactic` and `cycle`; leaves everything else as it stands, but: `ids::X` becomes `crate::ids::X`, and so
-for each crate; every module is public, and no function is exported under its bare name, so that it is called by its path and the archive
-of what `rt` compiled can be linked beside it."""
+Strips `requires {..}`, `ensures {..}`, `invariant {..}`, `decreases {..}`/`variant {..}` (balanced braces), with a name before the brace
+or without; what is ghost, up to its `;`, or with its braces and the `;` or `,` behind them: `use` lines, fields of structs, members of traits and
+impls; the attributes `tactic` and `cycle`, and `Drop` in a derive, which Rust has no need of. It leaves everything else as it stands, but:
+`ids::X` becomes `crate::ids::X`, and so for each crate; every module is public, and no function is exported under its bare name, so that it is
+called by its path and the archive of what `rt` compiled can be linked beside it."""
 import os, re, sys
 
-CLAUSE = re.compile(r"(requires|ensures|invariant|decreases|variant|maintains)\b\s*\{")
+CLAUSE = re.compile(r"(requires|ensures|invariant|decreases|variant|maintains)\b(\s+\w+)?\s*\{")
 
 def balanced(s, i):
     """s[i] is '{': the place behind its '}'."""
@@ -42,7 +43,7 @@ def strip(s, crates):
                     i += 1
                 if s[i] == "{":
                     i = balanced(s, i)
-                    if s[i:i + 1] == ";":
+                    if s[i:i + 1] in (";", ","):
                         i += 1
                 else:
                     i += 1
@@ -50,14 +51,22 @@ def strip(s, crates):
         out.append(s[i]); i += 1
     t = "".join(out)
     t = re.sub(r"(?<![\w:])(" + "|".join(crates) + ")::", r"crate::\1::", t)
-    t = re.sub(r"^#!?\[(tactic|cycle)\(.*\)\]\n", "", t, flags=re.M)
+    t = re.sub(r"^[ \t]*#!?\[(tactic|cycle)\(.*?\)\]\n", "", t, flags=re.M | re.S)
+    t = re.sub(r"#\[derive\(([^)]*)\)\]", derived, t)
     t = re.sub(r"^mod ", "pub mod ", t, flags=re.M).replace("#[unsafe(no_mangle)]\n", "")
     t = re.sub(r"[ \t]+\n", "\n", t)
     return re.sub(r"\n{3,}", "\n\n", t).lstrip("\n")
 
+def derived(attribute):
+    """A derive without what Rust cannot derive, or nothing where none is left."""
+    traits = [name.strip() for name in attribute.group(1).split(",")]
+    kept = ", ".join(name for name in traits if name != "Drop")
+    return f"#[derive({kept})]" if kept else ""
+
 def put(src, dst, crates):
     t = strip(open(src, encoding="utf-8").read(), crates)
-    assert "⌜" not in t and "ghost" not in re.sub(r"//.*", "", t), src
+    code = re.sub(r"//.*", "", t)
+    assert code.isascii() and not re.search(r"\b(ghost|requires|ensures)\b", code), src
     open(dst, "w", encoding="utf-8").write(t)
 
 def libraries(repo):

@@ -6,10 +6,11 @@ extern crate lent;
 use std::io::{BufRead, BufWriter, Write};
 
 use lent::ids::NodeId;
-use lent::kernel::answers::Answer;
 use lent::kernel::{changes_calls, conditions_calls, disjointness_calls, joins_calls};
 use lent::ranges::bounds::{Bound, Comparison};
 use lent::table::calls;
+use lent::table::lent::{Table, TableMut, Used};
+use lent::table::refusal::Refusal;
 
 /// What is held of each slice, and how many words of each are lent.
 struct Held {
@@ -87,36 +88,32 @@ fn poke(h: &mut Held, n: &[i64; 6]) {
     }
 }
 
+/// The number of an answer: 0, or that of its refusal.
+fn number<T>(answer: &Result<T, Refusal>) -> u32 {
+    answer.as_ref().err().map_or(0, |refusal| refusal.number())
+}
+
 /// Calls that make an id, if the letter is one of theirs.
-fn make(h: &mut Held, letter: char, n: &[i64; 6]) -> Option<Answer> {
-    let Held {
-        nodes,
-        children,
-        cuts,
-        index,
-        memo,
-        ..
-    } = h;
+fn make(h: &mut Held, letter: char, n: &[i64; 6]) -> Option<Result<NodeId, Refusal>> {
+    let table = &mut TableMut {
+        nodes: &mut h.nodes,
+        children: &mut h.children,
+        cuts: &mut h.cuts,
+        index: &mut h.index,
+    };
+    let memo = &mut h.memo;
     let (x, y, v) = (NodeId(n[0] as u32), NodeId(n[1] as u32), n[0] as u32);
     let (low, high) = (bound(n[1], n[2]), bound(n[3], n[4]));
     let (lower, upper) = (bound(n[2], n[3]), bound(n[4], n[5]));
     Some(match letter {
-        'b' => conditions_calls::from_bool(nodes, children, cuts, index, v),
-        'c' => conditions_calls::from_comparison(
-            nodes,
-            children,
-            cuts,
-            index,
-            v,
-            comparison(n[1]),
-            n[2] as i32,
-        ),
-        'r' => conditions_calls::from_range(nodes, children, cuts, index, v, low, high),
-        'a' => joins_calls::and(nodes, children, cuts, index, memo, x, y),
-        'o' => joins_calls::or(nodes, children, cuts, index, memo, x, y),
-        't' => changes_calls::restrict(nodes, children, cuts, index, memo, x, y.0, n[2] != 0),
-        'n' => changes_calls::narrow(nodes, children, cuts, index, memo, x, y.0, lower, upper),
-        'w' => changes_calls::widen(nodes, children, cuts, index, memo, x, y.0, lower, upper),
+        'b' => conditions_calls::from_bool(table, v),
+        'c' => conditions_calls::from_comparison(table, v, comparison(n[1]), n[2] as i32),
+        'r' => conditions_calls::from_range(table, v, low, high),
+        'a' => joins_calls::and(table, memo, x, y),
+        'o' => joins_calls::or(table, memo, x, y),
+        't' => changes_calls::restrict(table, memo, x, y.0, n[2] != 0),
+        'n' => changes_calls::narrow(table, memo, x, y.0, lower, upper),
+        'w' => changes_calls::widen(table, memo, x, y.0, lower, upper),
         _ => return None,
     })
 }
@@ -124,38 +121,46 @@ fn make(h: &mut Held, letter: char, n: &[i64; 6]) -> Option<Answer> {
 /// What a line that writes brings forth.
 fn answer(h: &mut Held, letter: char, n: &[i64; 6]) -> String {
     if let Some(answer) = make(h, letter, n) {
-        return format!("{} {}", answer.number, answer.id.0);
+        let id = answer.unwrap_or(NodeId::FALSE);
+        return format!("{} {}", number(&answer), id.0);
     }
-    let Held {
-        nodes,
-        children,
-        cuts,
-        index,
-        memo,
-        places,
-    } = h;
+    if letter == 'f' {
+        let table = &mut TableMut {
+            nodes: &mut h.nodes,
+            children: &mut h.children,
+            cuts: &mut h.cuts,
+            index: &mut h.index,
+        };
+        return number(&calls::fresh(table)).to_string();
+    }
+    let table = &Table {
+        nodes: &h.nodes,
+        children: &h.children,
+        cuts: &h.cuts,
+        index: &h.index,
+    };
     let (first, second) = (n[0] as u32, NodeId(n[1] as u32));
     let told = match letter {
-        'f' => return calls::fresh(nodes, children, cuts, index).to_string(),
         'k' => {
-            let c = calls::check(nodes, children, cuts, index);
-            return format!("{} {} {}", c.number, c.nodes, c.edges);
+            let answer = calls::check(table);
+            let used = answer.unwrap_or(Used { nodes: 0, edges: 0 });
+            return format!("{} {} {}", number(&answer), used.nodes, used.edges);
         }
         's' => {
             return [
-                shown(nodes),
-                shown(children),
-                shown(cuts),
-                shown(index),
-                shown(memo),
+                shown(&h.nodes),
+                shown(&h.children),
+                shown(&h.cuts),
+                shown(&h.index),
+                shown(&h.memo),
             ]
             .concat()
         }
-        'e' => calls::evaluate(nodes, children, cuts, index, places, first, second),
-        'd' => disjointness_calls::is_disjoint(nodes, children, cuts, index, NodeId(first), second),
+        'e' => calls::evaluate(table, &h.places, first, second),
+        'd' => disjointness_calls::is_disjoint(table, NodeId(first), second),
         _ => return "?".to_string(),
     };
-    format!("{} {}", told.number, u32::from(told.yes))
+    format!("{} {}", number(&told), u32::from(told.unwrap_or(false)))
 }
 
 fn main() {

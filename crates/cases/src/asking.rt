@@ -1,208 +1,137 @@
 // Asks a table a list of questions.
-use super::lists::{List, length, nth};
-use super::questions::{Case, Kind, NO, QUIET, Question, YES, kind_of, show_question};
-use super::records::look;
-use super::show;
-use super::show::Count;
-use super::words::{all, fill};
+use super::count::Count;
+use super::questions::{Case, Question, Value};
+use super::records::record;
 use ids::NodeId;
-use kernel::answers::{Answer, NO_ROOM};
 use kernel::changes_calls::{narrow, restrict, widen};
 use kernel::conditions_calls::{from_bool, from_comparison, from_range};
 use kernel::disjointness_calls::is_disjoint;
 use kernel::joins_calls::{and, or};
 use std::io;
-use table::calls::evaluate;
-use table::told::{DONE, Told};
+use table::calls::{check, evaluate};
+use table::lent::{Table, TableMut};
+use table::limits::FIRST_BOOLEAN;
+use table::refusal::Refusal;
 
 // What every word of the memo is before each call: it is scratch, and never believed. Were it, its first word would say that one set of
 // eight words is in use, and the words behind that set would stay.
 const SOILED: u64 = 262221;
 
-// The first place that is none; no list has a place that lies further.
-const BEYOND: u64 = 4294967296;
+// Boolean a on, and all others off.
+const ONLY_A: u32 = 1;
 
-fn of_told(t: Told) -> Answer {
-    let mut value = NO;
-    if t.yes {
-        value = YES;
-    }
-    Answer {
-        number: t.number,
-        id: NodeId(value),
-    }
+// Which cases have a line.
+#[derive(Clone, Copy, PartialEq, Eq)]
+pub enum Lines {
+    All,
+    Wrong,
 }
 
-fn place_of(n: u64) -> i64 {
-    if n > BEYOND {
-        return 0;
-    }
-    n as i64
+// What is lent.
+#[derive(Drop)]
+pub struct Lent<'a> {
+    pub table: TableMut<'a>,
+    pub memo: &'a mut [u64],
 }
 
-fn read(nodes: &[u32], children: &[u32], cuts: &[i64], index: &[u32], id: u32, place: u64) -> Told {
-    let mut places = [0i64; 32];
-    places[0] = place_of(place);
-    evaluate(nodes, children, cuts, index, &places, 1, NodeId(id))
-}
-
-fn tell(nodes: &[u32], children: &[u32], cuts: &[i64], index: &[u32], q: Question) -> Answer {
-    match q {
-        Question::Disjoint(x, y) => {
-            of_told(is_disjoint(nodes, children, cuts, index, NodeId(x), NodeId(y)))
-        }
-        Question::Read(id, place) => of_told(read(nodes, children, cuts, index, id, place)),
-        _ => look(nodes, children, cuts, index, q),
+// What the call leaves in every word of a memo that it was lent: "memo all zero" beside 0 and 6, "everything as found" beside the other
+// refusals.
+fn memo_after(told: Result<Value, Refusal>) -> u64 {
+    match told {
+        Ok(_) | Err(Refusal::NoRoom) => 0,
+        Err(_) => SOILED,
     }
 }
 
-// What needs no memo.
-fn ask_less(
-    nodes: &mut [u32],
-    children: &mut [u32],
-    cuts: &mut [i64],
-    index: &mut [u32],
-    q: Question,
-) -> Answer {
-    match q {
-        Question::Compare(v, op, key) => from_comparison(nodes, children, cuts, index, v, op, key),
-        Question::Between(v, low, high) => from_range(nodes, children, cuts, index, v, low, high),
-        Question::Boolean(v) => from_bool(nodes, children, cuts, index, v),
-        _ => tell(nodes, children, cuts, index, q),
+fn ask(lent: &mut Lent, question: Question) -> Result<Value, Refusal> {
+    let table = &mut lent.table;
+    let memo = &mut *lent.memo;
+    match question {
+        Question::Compare(v, op, key) => from_comparison(table, v.0, op, key).map(Value::Id),
+        Question::Between(v, low, high) => from_range(table, v.0, low, high).map(Value::Id),
+        Question::Boolean(v) => from_bool(table, v.0).map(Value::Id),
+        Question::And(x, y) => and(table, memo, x, y).map(Value::Id),
+        Question::Or(x, y) => or(table, memo, x, y).map(Value::Id),
+        Question::Restrict(x, v, value) => restrict(table, memo, x, v.0, value).map(Value::Id),
+        Question::Narrow(x, v, low, high) => narrow(table, memo, x, v.0, low, high).map(Value::Id),
+        Question::Widen(x, v, low, high) => widen(table, memo, x, v.0, low, high).map(Value::Id),
+        Question::Disjoint(x, y) => is_disjoint(&table.read(), x, y).map(Value::Yes),
+        Question::Read(x, place) => read(&table.read(), x, place).map(Value::Yes),
+        Question::Edges(x) => edges(&table.read(), x).map(Value::Count),
+        Question::FirstCut(x) => first_cut(&table.read(), x).map(Value::Cut),
+        Question::AllNodes => check(&table.read()).map(|used| Value::Count(used.nodes)),
+        Question::AllEdges => check(&table.read()).map(|used| Value::Count(used.edges)),
     }
 }
 
-// A change at one variable.
-fn change(
-    nodes: &mut [u32],
-    children: &mut [u32],
-    cuts: &mut [i64],
-    index: &mut [u32],
-    memo: &mut [u64],
-    q: Question,
-) -> Answer {
-    match q {
-        Question::Restrict(id, v, value) => {
-            restrict(nodes, children, cuts, index, memo, NodeId(id), v, value)
-        }
-        Question::Narrow(id, v, low, high) => {
-            narrow(nodes, children, cuts, index, memo, NodeId(id), v, low, high)
-        }
-        Question::Widen(id, v, low, high) => {
-            widen(nodes, children, cuts, index, memo, NodeId(id), v, low, high)
-        }
-        _ => ask_less(nodes, children, cuts, index, q),
+// x at a place, with a true and all else 0.
+fn read(table: &Table, id: NodeId, place: i64) -> Result<bool, Refusal> {
+    let mut places = [0; FIRST_BOOLEAN];
+    places[0] = place;
+    evaluate(table, &places, ONLY_A, id)
+}
+
+fn edges(table: &Table, id: NodeId) -> Result<usize, Refusal> {
+    let [_, count, _, _] = record(table, id).ok_or(Refusal::UnknownId)?;
+    Ok(*count as usize)
+}
+
+fn first_cut(table: &Table, id: NodeId) -> Result<i64, Refusal> {
+    let [_, _, first, _] = record(table, id).ok_or(Refusal::UnknownId)?;
+    table
+        .cuts
+        .get(*first as usize)
+        .copied()
+        .ok_or(Refusal::UnknownId)
+}
+
+fn is_right(memo: &[u64], case: &Case, told: Result<Value, Refusal>) -> bool {
+    let after = memo_after(told);
+    told == case.wants && (!case.asks.is_lent_memo() || memo.iter().all(|word| *word == after))
+}
+
+// One line for a case.
+fn show(rt: &impl Print, case: &Case, told: Result<Value, Refusal>) -> io::Result<()> {
+    print!(rt; "{case}: ")?;
+    match told {
+        Ok(value) => print!(rt; "{value}")?,
+        Err(refusal) => print!(rt; "refusal {} and {}", refusal.number(), case.asks.refused())?,
     }
-}
-
-fn ask(
-    nodes: &mut [u32],
-    children: &mut [u32],
-    cuts: &mut [i64],
-    index: &mut [u32],
-    memo: &mut [u64],
-    q: Question,
-) -> Answer {
-    match q {
-        Question::And(x, y) => and(nodes, children, cuts, index, memo, NodeId(x), NodeId(y)),
-        Question::Or(x, y) => or(nodes, children, cuts, index, memo, NodeId(x), NodeId(y)),
-        _ => change(nodes, children, cuts, index, memo, q),
-    }
-}
-
-// "Memo all zero if one was lent" beside 0 and 6, "everything as found" beside the other refusals.
-fn is_zeroed(number: u32) -> bool {
-    number == DONE || number == NO_ROOM
-}
-
-fn memo_right(memo: &[u64], number: u32) -> bool {
-    if is_zeroed(number) {
-        return all(memo, 0);
-    }
-    all(memo, SOILED)
-}
-
-fn show_memo(rt: &impl Print, number: u32) -> io::Result<()> {
-    if is_zeroed(number) {
-        show::text(rt, b", memo zero")?;
-    } else {
-        show::text(rt, b", memo as found")?;
+    if case.asks.is_lent_memo() {
+        let zeroed = memo_after(told) == 0;
+        print!(rt; ", memo {}", if zeroed { "zero" } else { "as found" })?;
     }
     Ok(())
 }
 
-fn show_answer(rt: &impl Print, kind: Kind, number: u32, value: u32) -> io::Result<()> {
-    if number != DONE {
-        show::named(rt, b"refusal ", number)?;
-        show::text(rt, b" and ")?;
-    }
-    match kind {
-        Kind::Makes => show::id(rt, value)?,
-        Kind::Works => {
-            show::id(rt, value)?;
-            show_memo(rt, number)?;
-        }
-        Kind::Tells => show::yes_or_no(rt, value == YES)?,
-        Kind::Counts => show::number(rt, value)?,
-    }
-    Ok(())
-}
-
-fn is_right(memo: &[u64], case: Case, said: Answer) -> bool {
-    let id = said.id;
-    let q = case.asks;
-    let kind = kind_of(q);
-    if said.number != case.number || id.0 != case.value {
-        return false;
-    }
-    match kind {
-        Kind::Works => memo_right(memo, said.number),
-        _ => true,
-    }
-}
-
-// One line for a case; for a quiet one only where it is wrong.
-fn judge(
+// Asks one question. Where only wrong answers have a line, a right one has none.
+pub fn run_one(
     rt: &impl Print,
-    memo: &[u64],
-    c: Count,
-    case: Case,
-    quiet: bool,
-    said: Answer,
-) -> io::Result<Count> {
-    let id = said.id;
-    let q = case.asks;
-    let right = is_right(memo, case, said);
-    if right && (quiet || case.of == QUIET) {
-        return Ok(show::counted(c, true));
+    lent: &mut Lent,
+    case: &Case,
+    lines: Lines,
+    count: &mut Count,
+) -> io::Result<()> {
+    lent.memo.fill(SOILED);
+    let told = ask(lent, case.asks);
+    let right = is_right(lent.memo, case, told);
+    if right && lines == Lines::Wrong {
+        count.add(true);
+        return Ok(());
     }
-    show::name(rt, case.of)?;
-    show_question(rt, q)?;
-    show::text(rt, b": ")?;
-    show_answer(rt, kind_of(q), said.number, id.0)?;
-    show::judged(rt, c, right)
+    show(rt, case, told)?;
+    count.judged(rt, right)
 }
 
-// All cases of a list. Where it is quiet, a right answer has no line.
 pub fn run(
     rt: &impl Print,
-    nodes: &mut [u32],
-    children: &mut [u32],
-    cuts: &mut [i64],
-    index: &mut [u32],
-    memo: &mut [u64],
-    before: Count,
-    list: List,
-    quiet: bool,
-) -> io::Result<Count> {
-    let mut c = before;
-    let n = length(list);
-    for k in 0..n {
-        let case = nth(list, k);
-        let q = case.asks;
-        fill(memo, SOILED);
-        let said = ask(nodes, children, cuts, index, memo, q);
-        c = judge(rt, memo, c, case, quiet, said)?;
+    lent: &mut Lent,
+    cases: &[Case],
+    lines: Lines,
+    count: &mut Count,
+) -> io::Result<()> {
+    for case in cases {
+        run_one(rt, lent, case, lines, count)?;
     }
-    Ok(c)
+    Ok(())
 }

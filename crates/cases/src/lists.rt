@@ -1,365 +1,330 @@
 // The cases, in lists that are each asked of one table. Some ids are not in the document: they follow from its rule of ids, which is that
 // nodes are numbered in the order of making, and that a first child is never complemented.
-use super::questions::{Case, NO, QUIET, Question, YES, done, refused};
-use kernel::answers::{NO_ROOM, WRONG_VARIABLE};
-use ranges::bounds::{Bound, Comparison};
-use table::told::{BEYOND_PLACES, NOT_SOUND, UNKNOWN_ID, WRONG_ROOM};
+ghost use Rattle.std.specs.Prelude.{◌<◌};
 
-#[derive(Clone, Copy)]
-pub enum List {
-    // C1 to C12, C14, C15, and restriction.
-    First,
-    // C13.
-    Merged,
-    // a widened by x in [3,7], which is to stay in the order of variables.
-    Widened,
-    // A restriction that makes nodes below both edges of a boolean node: the low ones first.
-    Restricted,
-    // C16: what fills a table with room for four nodes, and what it refuses then.
-    Fills,
-    Overfills,
-    // C16: the largest room, and one node more.
-    Largest,
-    Oversized,
-    // C16: x<0 or x=2 or x=4 and so on to x=62, which has 64 edges, and a 65th edge.
-    Sixty,
-    // C16: the last variable and the last place, and what lies beyond.
-    Last,
-    TooFar,
-    // A condition, and refusals that go before a shortcut: in a table that is not sound, and with a memo of a length that is refused.
-    Some,
-    Damaged,
-    OtherMemo,
+use super::questions::Question::{
+    AllEdges, AllNodes, And, Between, Boolean, Compare, Disjoint, Edges, FirstCut, Narrow, Or,
+    Read, Restrict, Widen,
+};
+use super::questions::Value::{Count, Cut, Id, Yes};
+use super::questions::{A, B, C, Case, D, Question, Value, Variable, X};
+use ids::NodeId;
+use ranges::bounds::Bound::{Excludes, Includes, Open};
+use ranges::bounds::Comparison::{Equal, GreaterEqual, LessEqual, LessThan, NotEqual};
+use ranges::places::HIGHEST;
+use table::refusal::Refusal::{
+    BeyondPlaces, NoRoom, NotSound, UnknownId, WrongRoom, WrongVariable,
+};
+
+// A case, where its fields need no names: its number in document 01, if it has one there, the question, and what is to come out.
+macro_rules! case {
+    ($of:expr, $asks:expr, $wants:expr) => {
+        Case {
+            of: $of,
+            asks: $asks,
+            wants: $wants,
+        }
+    };
 }
 
-pub fn length(list: List) -> usize {
-    match list {
-        List::First => 41,
-        List::Merged => 13,
-        List::Widened => 6,
-        List::Restricted => 15,
-        List::Fills => 6,
-        List::Overfills => 5,
-        List::Largest => 1,
-        List::Oversized => 1,
-        List::Sixty => 71,
-        List::Last => 4,
-        List::TooFar => 12,
-        List::Some => 1,
-        List::Damaged => 5,
-        List::OtherMemo => 7,
-    }
-}
+// C1 to C12, C14, C15, and restriction. 10 is (x<5 and a), 11 its complement, 12 (x<5 or a). From C14 on no change adds a node. Narrowing by
+// empty bounds does not commute with negation: 2 and 3 both become FALSE.
+pub const FIRST: [Case; 41] = [
+    case!(Some(1), Compare(X, LessThan, 5), Ok(Id(NodeId(2)))),
+    case!(Some(2), Compare(X, GreaterEqual, 5), Ok(Id(NodeId(3)))),
+    case!(Some(3), Compare(X, LessEqual, 5), Ok(Id(NodeId(4)))),
+    case!(Some(4), And(NodeId(2), NodeId(3)), Ok(Id(NodeId::FALSE))),
+    case!(Some(5), And(NodeId(2), NodeId(4)), Ok(Id(NodeId(2)))),
+    case!(Some(6), And(NodeId(3), NodeId(4)), Ok(Id(NodeId(7)))),
+    case!(Some(7), Compare(X, Equal, 5), Ok(Id(NodeId(7)))),
+    case!(Some(7), Compare(X, NotEqual, 5), Ok(Id(NodeId(6)))),
+    case!(Some(8), Boolean(A), Ok(Id(NodeId(8)))),
+    case!(Some(9), And(NodeId(2), NodeId(8)), Ok(Id(NodeId(10)))),
+    case!(Some(10), Or(NodeId(2), NodeId(8)), Ok(Id(NodeId(12)))),
+    case!(
+        Some(11),
+        Between(X, Excludes(1), Excludes(2)),
+        Ok(Id(NodeId(15)))
+    ),
+    case!(Some(11), Compare(X, Equal, 1), Ok(Id(NodeId(17)))),
+    case!(Some(11), Disjoint(NodeId(15), NodeId(17)), Ok(Yes(true))),
+    case!(Some(11), Compare(X, Equal, 2), Ok(Id(NodeId(19)))),
+    case!(Some(11), Disjoint(NodeId(15), NodeId(19)), Ok(Yes(true))),
+    case!(Some(12), Read(NodeId(10), 8), Ok(Yes(true))),
+    case!(Some(12), Read(NodeId(10), 10), Ok(Yes(false))),
+    case!(
+        Some(14),
+        Narrow(NodeId(7), X, Includes(5), Includes(5)),
+        Ok(Id(NodeId::TRUE))
+    ),
+    case!(
+        Some(14),
+        Narrow(NodeId(2), X, Includes(3), Includes(4)),
+        Ok(Id(NodeId::TRUE))
+    ),
+    case!(
+        Some(14),
+        Narrow(NodeId(2), X, Includes(5), Open),
+        Ok(Id(NodeId::FALSE))
+    ),
+    case!(
+        Some(14),
+        Narrow(NodeId(2), X, Includes(3), Includes(7)),
+        Ok(Id(NodeId(2)))
+    ),
+    case!(
+        Some(15),
+        Narrow(NodeId::TRUE, X, Includes(7), Includes(3)),
+        Ok(Id(NodeId::TRUE))
+    ),
+    case!(
+        Some(15),
+        Narrow(NodeId(2), X, Includes(7), Includes(3)),
+        Ok(Id(NodeId::FALSE))
+    ),
+    case!(
+        Some(15),
+        Narrow(NodeId(8), X, Includes(7), Includes(3)),
+        Ok(Id(NodeId(8)))
+    ),
+    case!(
+        Some(15),
+        Widen(NodeId::TRUE, X, Includes(7), Includes(3)),
+        Ok(Id(NodeId::FALSE))
+    ),
+    case!(
+        Some(15),
+        Widen(NodeId(2), X, Includes(7), Includes(3)),
+        Ok(Id(NodeId::FALSE))
+    ),
+    case!(
+        Some(15),
+        Widen(NodeId(8), X, Includes(7), Includes(3)),
+        Ok(Id(NodeId::FALSE))
+    ),
+    case!(
+        None,
+        Narrow(NodeId(3), X, Includes(7), Includes(3)),
+        Ok(Id(NodeId::FALSE))
+    ),
+    case!(None, Narrow(NodeId(10), X, Open, Open), Ok(Id(NodeId(10)))),
+    case!(None, Widen(NodeId(11), X, Open, Open), Ok(Id(NodeId(11)))),
+    case!(
+        None,
+        Widen(NodeId::FALSE, X, Includes(3), Includes(7)),
+        Ok(Id(NodeId::FALSE))
+    ),
+    case!(None, Restrict(NodeId(10), A, true), Ok(Id(NodeId(2)))),
+    case!(None, Restrict(NodeId(10), A, false), Ok(Id(NodeId::FALSE))),
+    case!(None, Restrict(NodeId(11), A, true), Ok(Id(NodeId(3)))),
+    case!(None, Restrict(NodeId(12), A, true), Ok(Id(NodeId::TRUE))),
+    case!(None, Restrict(NodeId(12), A, false), Ok(Id(NodeId(2)))),
+    case!(None, Restrict(NodeId(10), B, true), Ok(Id(NodeId(10)))),
+    case!(None, Restrict(NodeId(10), X, false), Ok(Id(NodeId(10)))),
+    case!(None, AllNodes, Ok(Count(9))),
+    case!(None, AllEdges, Ok(Count(22))),
+];
 
-pub fn nth(list: List, k: usize) -> Case {
-    match list {
-        List::First => first(k),
-        List::Merged => merged(k),
-        List::Widened => widened(k),
-        List::Restricted => restricted(k),
-        List::Fills => fills(k),
-        List::Overfills => overfills(k),
-        List::Largest => done(16, Question::Boolean(32), 2),
-        List::Oversized => refused(16, Question::Boolean(32), WRONG_ROOM),
-        List::Sixty => sixty(k),
-        List::Last => last(k),
-        List::TooFar => too_far(k),
-        List::Damaged => damaged(k),
-        List::OtherMemo => other_memo(k),
-        List::Some => done(0, Question::Boolean(32), 2),
-    }
-}
+// C13. 16 is (x<1: a; 1<=x<2: a and b; else FALSE).
+pub const MERGED: [Case; 13] = [
+    case!(Some(13), Boolean(A), Ok(Id(NodeId(2)))),
+    case!(Some(13), Boolean(B), Ok(Id(NodeId(4)))),
+    case!(Some(13), Compare(X, LessThan, 1), Ok(Id(NodeId(6)))),
+    case!(
+        Some(13),
+        Between(X, Includes(1), Excludes(2)),
+        Ok(Id(NodeId(9)))
+    ),
+    case!(Some(13), And(NodeId(2), NodeId(4)), Ok(Id(NodeId(10)))),
+    case!(Some(13), And(NodeId(6), NodeId(2)), Ok(Id(NodeId(12)))),
+    case!(Some(13), And(NodeId(9), NodeId(10)), Ok(Id(NodeId(15)))),
+    case!(Some(13), Or(NodeId(12), NodeId(15)), Ok(Id(NodeId(16)))),
+    case!(Some(13), And(NodeId(16), NodeId(4)), Ok(Id(NodeId(18)))),
+    case!(None, Edges(NodeId(16)), Ok(Count(3))),
+    case!(None, FirstCut(NodeId(16)), Ok(Cut(2))),
+    case!(Some(13), Edges(NodeId(18)), Ok(Count(2))),
+    case!(Some(13), FirstCut(NodeId(18)), Ok(Cut(4))),
+];
 
-fn first(k: usize) -> Case {
-    match k {
-        0 => done(1, Question::Compare(0, Comparison::LessThan, 5), 2),
-        1 => done(2, Question::Compare(0, Comparison::GreaterEqual, 5), 3),
-        2 => done(3, Question::Compare(0, Comparison::LessEqual, 5), 4),
-        3 => done(4, Question::And(2, 3), 1),
-        4 => done(5, Question::And(2, 4), 2),
-        5 => done(6, Question::And(3, 4), 7),
-        6 => done(7, Question::Compare(0, Comparison::Equal, 5), 7),
-        7 => done(7, Question::Compare(0, Comparison::NotEqual, 5), 6),
-        8 => done(8, Question::Boolean(32), 8),
-        9 => done(9, Question::And(2, 8), 10),
-        10 => done(10, Question::Or(2, 8), 12),
-        _ => from_c11(k),
-    }
-}
+// a widened by x in [3,7], which is to stay in the order of variables. The source puts x below a here, and then says that 5 and x<3 are not
+// disjoint. 9 is x in [3,7], a node that widening does not make.
+pub const WIDENED: [Case; 6] = [
+    case!(None, Boolean(A), Ok(Id(NodeId(2)))),
+    case!(
+        None,
+        Widen(NodeId(2), X, Includes(3), Includes(7)),
+        Ok(Id(NodeId(5)))
+    ),
+    case!(None, AllNodes, Ok(Count(2))),
+    case!(None, Compare(X, LessThan, 3), Ok(Id(NodeId(6)))),
+    case!(None, Disjoint(NodeId(5), NodeId(6)), Ok(Yes(true))),
+    case!(
+        None,
+        Between(X, Includes(3), Includes(7)),
+        Ok(Id(NodeId(9)))
+    ),
+];
 
-fn from_c11(k: usize) -> Case {
-    match k {
-        11 => done(
-            11,
-            Question::Between(0, Bound::Excludes(1), Bound::Excludes(2)),
-            15,
-        ),
-        12 => done(11, Question::Compare(0, Comparison::Equal, 1), 17),
-        13 => done(11, Question::Disjoint(15, 17), YES),
-        14 => done(11, Question::Compare(0, Comparison::Equal, 2), 19),
-        15 => done(11, Question::Disjoint(15, 19), YES),
-        16 => done(12, Question::Read(10, 8), YES),
-        17 => done(12, Question::Read(10, 10), NO),
-        _ => from_c14(k),
-    }
-}
+// A restriction that makes nodes below both edges of a boolean node: the low ones first. 20 is (b and c and d, if a; else b or c and d).
+// With d, below its low edge (b or c) is made first, and then below its high one (b and c).
+pub const RESTRICTED: [Case; 15] = [
+    case!(None, Boolean(A), Ok(Id(NodeId(2)))),
+    case!(None, Boolean(B), Ok(Id(NodeId(4)))),
+    case!(None, Boolean(C), Ok(Id(NodeId(6)))),
+    case!(None, Boolean(D), Ok(Id(NodeId(8)))),
+    case!(None, And(NodeId(6), NodeId(8)), Ok(Id(NodeId(10)))),
+    case!(None, And(NodeId(4), NodeId(10)), Ok(Id(NodeId(12)))),
+    case!(None, Or(NodeId(4), NodeId(10)), Ok(Id(NodeId(14)))),
+    case!(None, And(NodeId(2), NodeId(12)), Ok(Id(NodeId(16)))),
+    case!(None, And(NodeId(3), NodeId(14)), Ok(Id(NodeId(19)))),
+    case!(None, Or(NodeId(16), NodeId(19)), Ok(Id(NodeId(20)))),
+    case!(None, Restrict(NodeId(20), D, true), Ok(Id(NodeId(26)))),
+    case!(None, Or(NodeId(4), NodeId(6)), Ok(Id(NodeId(22)))),
+    case!(None, And(NodeId(4), NodeId(6)), Ok(Id(NodeId(24)))),
+    case!(None, AllNodes, Ok(Count(13))),
+    case!(None, AllEdges, Ok(Count(26))),
+];
 
-// No change below adds a node.
-fn from_c14(k: usize) -> Case {
-    match k {
-        18 => done(14, narrow(7, Bound::Includes(5), Bound::Includes(5)), 0),
-        19 => done(14, narrow(2, Bound::Includes(3), Bound::Includes(4)), 0),
-        20 => done(14, narrow(2, Bound::Includes(5), Bound::Open), 1),
-        21 => done(14, narrow(2, Bound::Includes(3), Bound::Includes(7)), 2),
-        22 => done(15, narrow(0, Bound::Includes(7), Bound::Includes(3)), 0),
-        23 => done(15, narrow(2, Bound::Includes(7), Bound::Includes(3)), 1),
-        24 => done(15, narrow(8, Bound::Includes(7), Bound::Includes(3)), 8),
-        25 => done(15, widen(0, Bound::Includes(7), Bound::Includes(3)), 1),
-        26 => done(15, widen(2, Bound::Includes(7), Bound::Includes(3)), 1),
-        27 => done(15, widen(8, Bound::Includes(7), Bound::Includes(3)), 1),
-        _ => from_f3(k),
-    }
-}
+// C16: what fills a table with room for four nodes.
+pub const FILLS: [Case; 6] = [
+    case!(None, Compare(X, LessThan, 5), Ok(Id(NodeId(2)))),
+    case!(None, Compare(X, LessEqual, 5), Ok(Id(NodeId(4)))),
+    case!(None, Compare(X, Equal, 5), Ok(Id(NodeId(7)))),
+    case!(None, Boolean(A), Ok(Id(NodeId(8)))),
+    case!(Some(16), And(NodeId(2), NodeId(4)), Ok(Id(NodeId(2)))),
+    case!(
+        None,
+        Narrow(NodeId(7), X, Includes(5), Open),
+        Ok(Id(NodeId(4)))
+    ),
+];
 
-// Narrowing by empty bounds does not commute with negation: 2 and 3 both become FALSE. 10 is (x<5 and a), 11 its complement, 12 (x<5 or a).
-fn from_f3(k: usize) -> Case {
-    match k {
-        28 => done(0, narrow(3, Bound::Includes(7), Bound::Includes(3)), 1),
-        29 => done(0, narrow(10, Bound::Open, Bound::Open), 10),
-        30 => done(0, widen(11, Bound::Open, Bound::Open), 11),
-        31 => done(0, widen(1, Bound::Includes(3), Bound::Includes(7)), 1),
-        32 => done(0, Question::Restrict(10, 32, true), 2),
-        33 => done(0, Question::Restrict(10, 32, false), 1),
-        34 => done(0, Question::Restrict(11, 32, true), 3),
-        35 => done(0, Question::Restrict(12, 32, true), 0),
-        36 => done(0, Question::Restrict(12, 32, false), 2),
-        37 => done(0, Question::Restrict(10, 33, true), 10),
-        38 => done(0, Question::Restrict(10, 0, false), 10),
-        39 => done(0, Question::AllNodes, 9),
-        _ => done(0, Question::AllEdges, 22),
-    }
-}
+// C16: what that table refuses then.
+pub const OVERFILLS: [Case; 5] = [
+    case!(Some(16), Compare(X, LessThan, 6), Err(NoRoom)),
+    case!(Some(16), Boolean(B), Err(NoRoom)),
+    case!(Some(16), And(NodeId(2), NodeId(8)), Err(NoRoom)),
+    case!(
+        None,
+        Widen(NodeId(8), X, Includes(3), Includes(7)),
+        Err(NoRoom)
+    ),
+    case!(None, Widen(NodeId(2), X, Includes(0), Open), Err(NoRoom)),
+];
 
-// Of x.
-fn narrow(id: u32, lower: Bound, upper: Bound) -> Question {
-    Question::Narrow(id, 0, lower, upper)
-}
+// C16: the largest room, and one node more.
+pub const LARGEST: [Case; 1] = [case!(Some(16), Boolean(A), Ok(Id(NodeId(2))))];
 
-fn widen(id: u32, lower: Bound, upper: Bound) -> Question {
-    Question::Widen(id, 0, lower, upper)
-}
+pub const OVERSIZED: [Case; 1] = [case!(Some(16), Boolean(A), Err(WrongRoom))];
 
-// The source puts x below a here, and then says that 5 and x<3 are not disjoint. 9 is x in [3,7], a node that widening does not make.
-fn widened(k: usize) -> Case {
-    match k {
-        0 => done(0, Question::Boolean(32), 2),
-        1 => done(0, widen(2, Bound::Includes(3), Bound::Includes(7)), 5),
-        2 => done(0, Question::AllNodes, 2),
-        3 => done(0, Question::Compare(0, Comparison::LessThan, 3), 6),
-        4 => done(0, Question::Disjoint(5, 6), YES),
-        _ => done(
-            0,
-            Question::Between(0, Bound::Includes(3), Bound::Includes(7)),
-            9,
-        ),
-    }
-}
+// How many questions `sixty` has.
+pub const SIXTY_MAKES: u32 = 64;
 
-// 20 is (b and c and d, if a; else b or c and d). With d, below its low edge (b or c) is made first, and then below its high one (b and c).
-fn restricted(k: usize) -> Case {
-    match k {
-        0 => done(0, Question::Boolean(32), 2),
-        1 => done(0, Question::Boolean(33), 4),
-        2 => done(0, Question::Boolean(34), 6),
-        3 => done(0, Question::Boolean(35), 8),
-        4 => done(0, Question::And(6, 8), 10),
-        5 => done(0, Question::And(4, 10), 12),
-        6 => done(0, Question::Or(4, 10), 14),
-        7 => done(0, Question::And(2, 12), 16),
-        8 => done(0, Question::And(3, 14), 19),
-        9 => done(0, Question::Or(16, 19), 20),
-        10 => done(0, Question::Restrict(20, 35, true), 26),
-        11 => done(0, Question::Or(4, 6), 22),
-        12 => done(0, Question::And(4, 6), 24),
-        13 => done(0, Question::AllNodes, 13),
-        _ => done(0, Question::AllEdges, 26),
-    }
-}
-
-// 16 is (x<1: a; 1<=x<2: a and b; else FALSE).
-fn merged(k: usize) -> Case {
-    match k {
-        0 => done(13, Question::Boolean(32), 2),
-        1 => done(13, Question::Boolean(33), 4),
-        2 => done(13, Question::Compare(0, Comparison::LessThan, 1), 6),
-        3 => done(
-            13,
-            Question::Between(0, Bound::Includes(1), Bound::Excludes(2)),
-            9,
-        ),
-        4 => done(13, Question::And(2, 4), 10),
-        5 => done(13, Question::And(6, 2), 12),
-        6 => done(13, Question::And(9, 10), 15),
-        7 => done(13, Question::Or(12, 15), 16),
-        8 => done(13, Question::And(16, 4), 18),
-        9 => done(0, Question::Edges(16), 3),
-        10 => done(0, Question::Cut(16), 2),
-        11 => done(13, Question::Edges(18), 2),
-        _ => done(13, Question::Cut(18), 4),
-    }
-}
-
-fn fills(k: usize) -> Case {
-    match k {
-        0 => done(0, Question::Compare(0, Comparison::LessThan, 5), 2),
-        1 => done(0, Question::Compare(0, Comparison::LessEqual, 5), 4),
-        2 => done(0, Question::Compare(0, Comparison::Equal, 5), 7),
-        3 => done(0, Question::Boolean(32), 8),
-        4 => done(16, Question::And(2, 4), 2),
-        _ => done(0, narrow(7, Bound::Includes(5), Bound::Open), 4),
-    }
-}
-
-fn overfills(k: usize) -> Case {
-    match k {
-        0 => refused(16, Question::Compare(0, Comparison::LessThan, 6), NO_ROOM),
-        1 => refused(16, Question::Boolean(33), NO_ROOM),
-        2 => refused(16, Question::And(2, 8), NO_ROOM),
-        3 => refused(0, widen(8, Bound::Includes(3), Bound::Includes(7)), NO_ROOM),
-        _ => refused(0, widen(2, Bound::Includes(0), Bound::Open), NO_ROOM),
-    }
-}
-
-// The id of node n of the list below. The nodes that x<0 is part of hold at the lowest place, so that they are not complemented.
-fn sixty_id(n: u32) -> u32 {
-    if n > 63 {
-        return 1;
-    }
+// The id of node n of the table that `sixty` makes. The nodes that x<0 is part of hold at the lowest place, so that they are not complemented.
+fn sixty_id(n: u32) -> NodeId
+    requires { n < 64 }
+{
     match n {
-        0 | 32 | 48 | 56 | 60 | 62 => n * 2 + 2,
-        _ => n * 2 + 3,
+        0 | 32 | 48 | 56 | 60 | 62 => NodeId(n * 2 + 2),
+        _ => NodeId(n * 2 + 3),
     }
 }
 
-// The keys 2, 4 and so on to 62.
-fn sixty_key(n: u32) -> i32 {
-    if n > 63 {
-        return 0;
-    }
-    (n + n) as i32
+// C16: question n of those that make x<0 or x=2 or x=4 and so on to x=62, which has 64 edges: the 32 conditions; then what comes out is joined
+// two by two, so that the last has all of them in it; then x>=100.
+pub fn sixty(n: u32) -> Case
+    requires { n < 64 }
+{
+    let asks = match n {
+        0 => Compare(X, LessThan, 0),
+        1..32 => Compare(X, Equal, (n * 2) as i32),
+        32..63 => {
+            let pair = (n - 32) * 2;
+            Or(sixty_id(pair), sixty_id(pair + 1))
+        }
+        _ => Compare(X, GreaterEqual, 100),
+    };
+    case!(None, asks, Ok(Id(sixty_id(n))))
 }
 
-// The 32 conditions; then what comes out is joined two by two, so that the last has all of them in it; then x>=100.
-fn sixty(k: usize) -> Case {
-    if k == 0 {
-        return done(QUIET, Question::Compare(0, Comparison::LessThan, 0), 2);
-    }
-    if k >= 63 {
-        return sixty_four(k);
-    }
-    let n = k as u32;
-    if n < 32 {
-        return done(
-            QUIET,
-            Question::Compare(0, Comparison::Equal, sixty_key(n)),
-            sixty_id(n),
-        );
-    }
-    let pair = (n - 32) * 2;
-    done(
-        QUIET,
-        Question::Or(sixty_id(pair), sixty_id(pair + 1)),
-        sixty_id(n),
-    )
-}
+// C16: what those make. 126 has 64 edges, and there is no room for a 65th.
+pub const SIXTY: [Case; 7] = [
+    case!(Some(16), Edges(NodeId(126)), Ok(Count(64))),
+    case!(None, AllNodes, Ok(Count(64))),
+    case!(None, AllEdges, Ok(Count(443))),
+    case!(Some(16), Or(NodeId(126), NodeId(129)), Err(NoRoom)),
+    case!(None, Widen(NodeId(126), X, Includes(-5), Open), Err(NoRoom)),
+    case!(
+        None,
+        Narrow(NodeId(126), X, Includes(1), Open),
+        Ok(Id(NodeId(131)))
+    ),
+    case!(None, Edges(NodeId(131)), Ok(Count(63))),
+];
 
-fn sixty_four(k: usize) -> Case {
-    match k {
-        63 => done(
-            QUIET,
-            Question::Compare(0, Comparison::GreaterEqual, 100),
-            129,
-        ),
-        64 => done(16, Question::Edges(126), 64),
-        65 => done(0, Question::AllNodes, 64),
-        66 => done(0, Question::AllEdges, 443),
-        67 => refused(16, Question::Or(126, 129), NO_ROOM),
-        68 => refused(0, widen(126, Bound::Includes(-5), Bound::Open), NO_ROOM),
-        69 => done(0, narrow(126, Bound::Includes(1), Bound::Open), 131),
-        _ => done(0, Question::Edges(131), 63),
-    }
-}
+// C16: the last variable and the last place.
+pub const LAST: [Case; 4] = [
+    case!(Some(16), Boolean(Variable(63)), Ok(Id(NodeId(2)))),
+    case!(None, Compare(Variable(31), LessThan, 5), Ok(Id(NodeId(4)))),
+    case!(Some(16), Compare(X, LessThan, 5), Ok(Id(NodeId(6)))),
+    case!(Some(16), Read(NodeId(7), HIGHEST), Ok(Yes(true))),
+];
 
-fn last(k: usize) -> Case {
-    match k {
-        0 => done(16, Question::Boolean(63), 2),
-        1 => done(0, Question::Compare(31, Comparison::LessThan, 5), 4),
-        2 => done(16, Question::Compare(0, Comparison::LessThan, 5), 6),
-        _ => done(16, Question::Read(7, 4294967295), YES),
-    }
-}
+// C16: what lies beyond the last variable and the last place.
+pub const TOO_FAR: [Case; 12] = [
+    case!(Some(16), Boolean(Variable(64)), Err(WrongVariable)),
+    case!(None, Boolean(Variable(31)), Err(WrongVariable)),
+    case!(None, Compare(A, LessThan, 5), Err(WrongVariable)),
+    case!(Some(16), Read(NodeId(7), HIGHEST + 1), Err(BeyondPlaces)),
+    case!(None, And(NodeId::TRUE, NodeId(8)), Err(UnknownId)),
+    case!(None, Disjoint(NodeId::FALSE, NodeId(8)), Err(UnknownId)),
+    case!(
+        None,
+        Restrict(NodeId::TRUE, Variable(64), true),
+        Err(WrongVariable)
+    ),
+    case!(
+        None,
+        Restrict(NodeId(8), Variable(64), true),
+        Err(UnknownId)
+    ),
+    case!(
+        None,
+        Narrow(NodeId::TRUE, Variable(40), Includes(3), Includes(7)),
+        Err(WrongVariable)
+    ),
+    case!(None, Narrow(NodeId(2), A, Open, Open), Err(WrongVariable)),
+    case!(
+        None,
+        Widen(NodeId(8), Variable(64), Includes(7), Includes(3)),
+        Err(UnknownId)
+    ),
+    case!(
+        None,
+        Widen(NodeId::FALSE, Variable(63), Includes(7), Includes(3)),
+        Err(WrongVariable)
+    ),
+];
 
-fn too_far(k: usize) -> Case {
-    match k {
-        0 => refused(16, Question::Boolean(64), WRONG_VARIABLE),
-        1 => refused(0, Question::Boolean(31), WRONG_VARIABLE),
-        2 => refused(
-            0,
-            Question::Compare(32, Comparison::LessThan, 5),
-            WRONG_VARIABLE,
-        ),
-        3 => refused(16, Question::Read(7, 4294967296), BEYOND_PLACES),
-        4 => refused(0, Question::And(0, 8), UNKNOWN_ID),
-        5 => refused(0, Question::Disjoint(1, 8), UNKNOWN_ID),
-        _ => too_far_to_change(k),
-    }
-}
+// A condition.
+pub const SOME: [Case; 1] = [case!(None, Boolean(A), Ok(Id(NodeId(2))))];
 
-fn too_far_to_change(k: usize) -> Case {
-    match k {
-        6 => refused(0, Question::Restrict(0, 64, true), WRONG_VARIABLE),
-        7 => refused(0, Question::Restrict(8, 64, true), UNKNOWN_ID),
-        8 => refused(
-            0,
-            Question::Narrow(0, 40, Bound::Includes(3), Bound::Includes(7)),
-            WRONG_VARIABLE,
-        ),
-        9 => refused(
-            0,
-            Question::Narrow(2, 32, Bound::Open, Bound::Open),
-            WRONG_VARIABLE,
-        ),
-        10 => refused(
-            0,
-            Question::Widen(8, 64, Bound::Includes(7), Bound::Includes(3)),
-            UNKNOWN_ID,
-        ),
-        _ => refused(
-            0,
-            Question::Widen(1, 63, Bound::Includes(7), Bound::Includes(3)),
-            WRONG_VARIABLE,
-        ),
-    }
-}
+// Refusals that go before a shortcut: in a table that is not sound.
+pub const DAMAGED: [Case; 5] = [
+    case!(None, And(NodeId::TRUE, NodeId(2)), Err(NotSound)),
+    case!(None, And(NodeId::TRUE, NodeId(8)), Err(NotSound)),
+    case!(None, Boolean(Variable(64)), Err(NotSound)),
+    case!(None, Restrict(NodeId(8), Variable(64), true), Err(NotSound)),
+    case!(None, Widen(NodeId::TRUE, X, Open, Open), Err(NotSound)),
+];
 
-fn damaged(k: usize) -> Case {
-    match k {
-        0 => refused(0, Question::And(0, 2), NOT_SOUND),
-        1 => refused(0, Question::And(0, 8), NOT_SOUND),
-        2 => refused(0, Question::Boolean(64), NOT_SOUND),
-        3 => refused(0, Question::Restrict(8, 64, true), NOT_SOUND),
-        _ => refused(0, widen(0, Bound::Open, Bound::Open), NOT_SOUND),
-    }
-}
-
-fn other_memo(k: usize) -> Case {
-    match k {
-        0 => done(0, Question::Boolean(32), 2),
-        1 => refused(0, Question::And(0, 2), WRONG_ROOM),
-        2 => refused(0, Question::And(0, 8), WRONG_ROOM),
-        3 => refused(0, Question::Or(2, 1), WRONG_ROOM),
-        4 => refused(0, Question::Restrict(2, 0, true), WRONG_ROOM),
-        5 => refused(0, narrow(0, Bound::Open, Bound::Open), WRONG_ROOM),
-        _ => refused(0, widen(0, Bound::Open, Bound::Open), WRONG_ROOM),
-    }
-}
+// Refusals that go before a shortcut: with a memo of a length that is refused.
+pub const OTHER_MEMO: [Case; 7] = [
+    case!(None, Boolean(A), Ok(Id(NodeId(2)))),
+    case!(None, And(NodeId::TRUE, NodeId(2)), Err(WrongRoom)),
+    case!(None, And(NodeId::TRUE, NodeId(8)), Err(WrongRoom)),
+    case!(None, Or(NodeId(2), NodeId::FALSE), Err(WrongRoom)),
+    case!(None, Restrict(NodeId(2), X, true), Err(WrongRoom)),
+    case!(None, Narrow(NodeId::TRUE, X, Open, Open), Err(WrongRoom)),
+    case!(None, Widen(NodeId::TRUE, X, Open, Open), Err(WrongRoom)),
+];

@@ -3,18 +3,20 @@
 
 #![tactic(auto)]
 
+use count::Count;
 use std::io;
 
 mod asking;
+mod count;
 mod lists;
 mod questions;
 mod records;
-mod show;
 mod tables;
-mod words;
 
 fn main(rt: HostRuntime) -> io::Result<()> {
-    let c = tables::shown(&rt, show::none())?;
-    let c = tables::refused(&rt, c)?;
-    show::total(&rt, tables::with_other_memos(&rt, c)?)
+    let mut count = Count::default();
+    tables::shown(&rt, &mut count)?;
+    tables::refused(&rt, &mut count)?;
+    tables::with_other_memos(&rt, &mut count)?;
+    println!(rt; "{count}")
 }

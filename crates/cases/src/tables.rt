@@ -1,193 +1,190 @@
 // The tables that are lent, and what is asked of each.
-use super::asking::run;
-use super::lists::List;
+ghost use Rattle.std.specs.Prelude.{◌≤◌, ◌*◌};
+
+use super::asking::{Lent, Lines, run, run_one};
+use super::count::Count;
+use super::lists;
+use super::questions::Case;
 use super::records::show_nodes;
-use super::show;
-use super::show::Count;
-use super::words::{same, same_cuts};
 use std::io;
 use table::calls::fresh;
-use table::told::DONE;
+use table::lent::TableMut;
+use table::limits::RECORD_WORDS;
 
-// A fresh table in room that was full of 77s, a memo of so many words, and what is asked of them. With `made` nodes at the end, all of
-// their words are shown; with none, there is a line only where an answer is wrong.
+// The words of a table: R of node records, E of edges, R of the index. (The program `damage` has such a type too. A crate of four arrays that
+// only two programs import would be no plainer.)
+#[derive(Clone, Copy, PartialEq, Eq)]
+struct Words<const R: usize, const E: usize> {
+    nodes: [u32; R],
+    children: [u32; E],
+    cuts: [i64; E],
+    index: [u32; R],
+}
+
+impl<const R: usize, const E: usize> Words<R, E> {
+    fn full_of(word: u32) -> Self {
+        Words {
+            nodes: [word; R],
+            children: [word; E],
+            cuts: [i64::from(word); E],
+            index: [word; R],
+        }
+    }
+
+    // With room for so many nodes.
+    fn lend(&mut self, records: usize) -> TableMut<'_>
+        requires { records * 4 ≤ R }
+    {
+        let words = records * RECORD_WORDS;
+        TableMut {
+            nodes: &mut self.nodes[..words],
+            children: &mut self.children,
+            cuts: &mut self.cuts,
+            index: &mut self.index[..words],
+        }
+    }
+
+    // A list asked with room for so many nodes, and a memo of so many words.
+    fn ask(
+        &mut self,
+        rt: &impl Print,
+        records: usize,
+        memo_words: usize,
+        cases: &[Case],
+        count: &mut Count,
+    ) -> io::Result<()>
+        requires records { records * 4 ≤ R }
+        requires memo { memo_words ≤ 64 }
+    {
+        let mut memo = [0; 64];
+        let mut lent = Lent {
+            table: self.lend(records),
+            memo: &mut memo[..memo_words],
+        };
+        run(rt, &mut lent, cases, Lines::All, count)
+    }
+}
+
+// What is asked of a fresh table, and how many nodes it has then.
+const ON_A_FRESH_TABLE: [(&[Case], usize); 4] = [
+    (&lists::FIRST, 9),
+    (&lists::MERGED, 9),
+    (&lists::WIDENED, 4),
+    (&lists::RESTRICTED, 13),
+];
+
+// A fresh table with room for 16 nodes and 64 edges, where all was full of 77s, and a memo of so many words. Where every case has a line, all
+// words of the nodes are shown too.
 fn show_table(
     rt: &impl Print,
-    c: Count,
-    list: List,
+    cases: &[Case],
     made: usize,
-    words: usize,
-) -> io::Result<Count> {
-    let mut nodes = [77u32; 64];
-    let mut children = [77u32; 64];
-    let mut cuts = [77i64; 64];
-    let mut index = [77u32; 64];
-    let mut memo = [77u64; 128];
-    if words > 128 {
-        return show::judged(rt, c, false);
+    memo_words: usize,
+    lines: Lines,
+    count: &mut Count,
+) -> io::Result<()>
+    requires { memo_words ≤ 128 }
+{
+    let mut words = Words::<64, 64>::full_of(77);
+    let mut memo = [77; 128];
+    let mut lent = Lent {
+        table: words.lend(16),
+        memo: &mut memo[..memo_words],
+    };
+    if fresh(&mut lent.table).is_err() {
+        return count.judged(rt, false);
     }
-    let told = fresh(&mut nodes, &mut children, &mut cuts, &mut index);
-    if told != DONE {
-        return show::judged(rt, c, false);
+    run(rt, &mut lent, cases, lines, count)?;
+    if lines == Lines::All {
+        show_nodes(rt, &lent.table.read(), made)?;
     }
-    let c = run(
-        rt,
-        &mut nodes,
-        &mut children,
-        &mut cuts,
-        &mut index,
-        &mut memo[0..words],
-        c,
-        list,
-        made == 0,
-    )?;
-    show_nodes(rt, &nodes, &children, &cuts, made)?;
-    Ok(c)
+    Ok(())
 }
 
 // With a set of eight words of memo for each record.
-fn show_all(rt: &impl Print, c: Count, list: List, made: usize) -> io::Result<Count> {
-    show::text(rt, b"A fresh table with room for 16 nodes and 64 edges\n")?;
-    show_table(rt, c, list, made, 128)
-}
-
-pub fn shown(rt: &impl Print, c: Count) -> io::Result<Count> {
-    let c = show_all(rt, c, List::First, 9)?;
-    let c = show_all(rt, c, List::Merged, 9)?;
-    let c = show_all(rt, c, List::Widened, 4)?;
-    show_all(rt, c, List::Restricted, 13)
+pub fn shown(rt: &impl Print, count: &mut Count) -> io::Result<()> {
+    for (cases, made) in ON_A_FRESH_TABLE {
+        println!(rt; "A fresh table with room for 16 nodes and 64 edges")?;
+        show_table(rt, cases, made, 128, Lines::All, count)?;
+    }
+    Ok(())
 }
 
 // No answer goes by the memo's length: the same lists again, with so many words of it.
-fn again(rt: &impl Print, c: Count, words: usize) -> io::Result<Count> {
-    show::text(rt, b"The same questions with a memo of ")?;
-    show::size(rt, words)?;
-    show::text(rt, b" words; a line only where wrong\n")?;
-    let c = show_table(rt, c, List::First, 0, words)?;
-    let c = show_table(rt, c, List::Merged, 0, words)?;
-    let c = show_table(rt, c, List::Widened, 0, words)?;
-    show_table(rt, c, List::Restricted, 0, words)
+fn again(rt: &impl Print, memo_words: usize, count: &mut Count) -> io::Result<()>
+    requires { memo_words ≤ 128 }
+{
+    println!(rt; "The same questions with a memo of {memo_words} words; a line only where wrong")?;
+    for (cases, made) in ON_A_FRESH_TABLE {
+        show_table(rt, cases, made, memo_words, Lines::Wrong, count)?;
+    }
+    Ok(())
 }
 
-pub fn with_other_memos(rt: &impl Print, c: Count) -> io::Result<Count> {
-    let c = again(rt, c, 8)?;
-    let c = again(rt, c, 64)?;
-    refused_memos(rt, c)
+pub fn with_other_memos(rt: &impl Print, count: &mut Count) -> io::Result<()> {
+    again(rt, 8, count)?;
+    again(rt, 64, count)?;
+    refused_memo(rt, 0, count)?;
+    // One word less and one more than a set, one more than all sets, and a set more than there are records.
+    refused_memo(rt, 7, count)?;
+    refused_memo(rt, 9, count)?;
+    refused_memo(rt, 33, count)?;
+    refused_memo(rt, 40, count)
+}
+
+// A memo's length that is refused beside 4 records.
+fn refused_memo(rt: &impl Print, memo_words: usize, count: &mut Count) -> io::Result<()>
+    requires { memo_words ≤ 64 }
+{
+    println!(rt; "Room for 4 nodes, but a memo of {memo_words} words")?;
+    Words::<16, 512>::full_of(0).ask(rt, 4, memo_words, &lists::OTHER_MEMO, count)
+}
+
+// 64 edges, and no room for a 65th. What makes them has a line only where an answer is wrong.
+fn sixty(rt: &impl Print, count: &mut Count) -> io::Result<()> {
+    println!(rt;
+        "Room for 80 nodes, and a memo of 8 words; 126 is x<0 or x=2 or x=4 and so on to x=62, 129 is x>=100; a line only where wrong"
+    )?;
+    let mut words = Words::<320, 512>::full_of(0);
+    let mut memo = [0; 8];
+    let mut lent = Lent {
+        table: words.lend(80),
+        memo: &mut memo,
+    };
+    // By number: question and answer follow from it, and 64 written out would be no plainer.
+    for n in 0..lists::SIXTY_MAKES {
+        run_one(rt, &mut lent, &lists::sixty(n), Lines::Wrong, count)?;
+    }
+    run(rt, &mut lent, &lists::SIXTY, Lines::All, count)
 }
 
 // An empty table with room for 4 nodes and 12 edges is asked a list; then the spare word of its first record is set to `spare`, and a list
 // asked that leaves every word as found.
-fn lend(rt: &impl Print, c: Count, asks: List, spare: u32, refuses: List) -> io::Result<Count> {
-    let mut nodes = [0u32; 16];
-    let mut children = [0u32; 12];
-    let mut cuts = [0i64; 12];
-    let mut index = [0u32; 16];
-    let mut memo = [0u64; 32];
-    let c = run(
-        rt,
-        &mut nodes,
-        &mut children,
-        &mut cuts,
-        &mut index,
-        &mut memo,
-        c,
-        asks,
-        false,
-    )?;
-    nodes[3] = spare;
-    let nodes0 = nodes;
-    let children0 = children;
-    let cuts0 = cuts;
-    let index0 = index;
-    let c = run(
-        rt,
-        &mut nodes,
-        &mut children,
-        &mut cuts,
-        &mut index,
-        &mut memo,
-        c,
-        refuses,
-        false,
-    )?;
-    let a = same(&nodes, &nodes0);
-    let b = same(&children, &children0);
-    let d = same_cuts(&cuts, &cuts0);
-    let e = same(&index, &index0);
-    show::as_found(rt, c, a & b & d & e)
-}
-
-// A list asked of an empty table with room for so many nodes and 512 edges, and a memo of so many words.
-fn lend_more(
+fn ask_and_refuse(
     rt: &impl Print,
-    c: Count,
-    records: usize,
-    words: usize,
-    list: List,
-) -> io::Result<Count> {
-    let mut nodes = [0u32; 16388];
-    let mut children = [0u32; 512];
-    let mut cuts = [0i64; 512];
-    let mut index = [0u32; 16388];
-    let mut memo = [0u64; 64];
-    if records > 4097 || words > 64 {
-        return show::judged(rt, c, false);
-    }
-    let n = records * 4;
-    let x = records * 4;
-    run(
-        rt,
-        &mut nodes[0..n],
-        &mut children,
-        &mut cuts,
-        &mut index[0..x],
-        &mut memo[0..words],
-        c,
-        list,
-        false,
-    )
+    asks: &[Case],
+    spare: u32,
+    refuses: &[Case],
+    count: &mut Count,
+) -> io::Result<()> {
+    let mut words = Words::<16, 12>::full_of(0);
+    words.ask(rt, 4, 32, asks, count)?;
+    words.nodes[3] = spare;
+    let before = words;
+    words.ask(rt, 4, 32, refuses, count)?;
+    print!(rt; "    every word of the table is as found")?;
+    count.judged(rt, words == before)
 }
 
-// 64 edges, and no room for a 65th.
-fn sixty_with(rt: &impl Print, c: Count, words: usize) -> io::Result<Count> {
-    show::text(rt, b"Room for 80 nodes, and a memo of ")?;
-    show::size(rt, words)?;
-    show::text(
-        rt,
-        b" words; 126 is x<0 or x=2 or x=4 and so on to x=62, 129 is x>=100; a line only where wrong\n",
-    )?;
-    lend_more(rt, c, 80, words, List::Sixty)
-}
-
-// A memo's length that is refused beside 4 records.
-fn refused_memo(rt: &impl Print, c: Count, words: usize) -> io::Result<Count> {
-    show::text(rt, b"Room for 4 nodes, but a memo of ")?;
-    show::size(rt, words)?;
-    show::text(rt, b" words\n")?;
-    lend_more(rt, c, 4, words, List::OtherMemo)
-}
-
-// None at all, one word less and one more than a set, one more than all sets, and a set more than there are records.
-fn refused_memos(rt: &impl Print, c: Count) -> io::Result<Count> {
-    let c = refused_memo(rt, c, 0)?;
-    let c = refused_memo(rt, c, 7)?;
-    let c = refused_memo(rt, c, 9)?;
-    let c = refused_memo(rt, c, 33)?;
-    refused_memo(rt, c, 40)
-}
-
-pub fn refused(rt: &impl Print, c: Count) -> io::Result<Count> {
-    show::text(rt, b"Room for 4 nodes and 12 edges, and no free node\n")?;
-    let c = lend(rt, c, List::Fills, 0, List::Overfills)?;
-    show::text(rt, b"Room for 4096 nodes, and for 4097\n")?;
-    let c = lend_more(rt, c, 4096, 64, List::Largest)?;
-    let c = lend_more(rt, c, 4097, 64, List::Oversized)?;
-    let c = sixty_with(rt, c, 8)?;
-    show::text(rt, b"Room for 4 nodes and 12 edges\n")?;
-    let c = lend(rt, c, List::Last, 0, List::TooFar)?;
-    show::text(
-        rt,
-        b"Room for 4 nodes and 12 edges, and then a spare word is set\n",
-    )?;
-    lend(rt, c, List::Some, 1, List::Damaged)
+pub fn refused(rt: &impl Print, count: &mut Count) -> io::Result<()> {
+    println!(rt; "Room for 4 nodes and 12 edges, and no free node")?;
+    ask_and_refuse(rt, &lists::FILLS, 0, &lists::OVERFILLS, count)?;
+    println!(rt; "Room for 4096 nodes, and for 4097")?;
+    Words::<16384, 512>::full_of(0).ask(rt, 4096, 64, &lists::LARGEST, count)?;
+    Words::<16388, 512>::full_of(0).ask(rt, 4097, 64, &lists::OVERSIZED, count)?;
+    sixty(rt, count)?;
+    println!(rt; "Room for 4 nodes and 12 edges")?;
+    ask_and_refuse(rt, &lists::LAST, 0, &lists::TOO_FAR, count)?;
+    println!(rt; "Room for 4 nodes and 12 edges, and then a spare word is set")?;
+    ask_and_refuse(rt, &lists::SOME, 1, &lists::DAMAGED, count)
 }

@@ -6,7 +6,6 @@ use Prim.Native.Nat.{ℕ, suc, ◌≤◌, ◌<◌}
 use native.Mathlib.Omega.{arith}
 use native.Mathlib.Decide.{ℕ_discrete}
 use lib.Dec.{ltb}
-use lib.ListN.{length}
 use borrow.Author.Tests.{lt-ltb, le-ltb}
 use Rattle.ids.specs.Id.{FALSE, ref, KnownTo}
 use Rattle.ids.specs.declared.NodeId.{NodeId}
@@ -30,16 +29,16 @@ use Rattle.merging.proofs.Bottoms.{create_last, narrowed_reduced, create_narrowe
 use Rattle.merging.proofs.Fitting.{not_fits_too_wide}
 use Rattle.table.proofs.Laws.{not_false_and_true}
 use Rattle.making.specs.declared.edges.Edges as built
-use Rattle.making.specs.declared.nodes.Used.{Used}
-use Rattle.making.specs.declared.nodes.Made.{Made}
+use Rattle.table.specs.declared.lent.Used.{Used}
+use Rattle.making.specs.Made.{Made}
 use Rattle.making.specs.Building.{Building, pieces_of}
 use Rattle.making.specs.Outcome.{Lent, Outcome, Buildable, table_of}
 use Rattle.making.proofs.Kept.{stays_refl}
 use Rattle.views.specs.declared.View.{View}
-use Rattle.views.specs.Seeing.{Inside, Views, seen}
-use Rattle.views.proofs.Sights.{known_held, views_inside, seen_count}
-use Rattle.walks.proofs.Composing.{lent_sound, lent_readable}
-use Rattle.clipping.specs.declared.Clip.{Clip}
+use Rattle.views.specs.Seeing.{Views, seen}
+use Rattle.views.proofs.Sights.{known_held, seen_count}
+use Rattle.walks.proofs.Composing.{lent_sound}
+use Rattle.clipping.specs.Clipping.{Clip}
 use Rattle.clipping.specs.Clipping.{Clips}
 use Rattle.changes.specs.Changed.{narrowing, widening}
 use Rattle.table.specs.Layout.{Store}
@@ -70,11 +69,7 @@ module _ {h : Used} {st : Store} {index : List ℕ} (l : Lent h st index) where
   t = table_of h st
 
   module _ {v id : ℕ} {a : View} (va : Views st h.nodes v id a) where
-    -- a view of it lies within the words,
-    pub view_inside : Inside (length st.children) a
-    view_inside = views_inside st h.nodes v id a (lent_readable l) va
-
-    -- and has as many edges as the id at the variable
+    -- a view of it has as many edges as the id at the variable
     as_many : count (edges_of t v id) ≡ a.count
     as_many = sym (ap count va.edges) ∙ seen_count st.children st.cuts v a va.inside.some
 

@@ -19,7 +19,7 @@ use Rattle.diagram.specs.Sound.{Known}
 use Rattle.algebra.specs.Changing.{change, emptied, narrowed, narrow, widened, widen}
 use Rattle.algebra.proofs.Shortcuts.{narrow_open, widen_empty, widen_open}
 use Rattle.merging.proofs.Bottoms.{narrow_is_change, widen_is_change}
-use Rattle.making.specs.declared.nodes.Used.{Used}
+use Rattle.table.specs.declared.lent.Used.{Used}
 use Rattle.making.specs.Outcome.{Lent, table_of}
 use Rattle.views.proofs.Sights.{known_held}
 use Rattle.walks.proofs.Composing.{lent_sound}

@@ -2,12 +2,10 @@
 use mathlib.Core.Path.{◌≡◌, sym, ◌∙◌, ap}
 use mathlib.Core.Bool.{Bool, true, false, not, cond}
 use mathlib.Core.List.{List}
-use Prim.Native.Nat.{ℕ, suc, ◌+◌, ◌-◌, ◌≤◌, ◌<◌}
+use Prim.Native.Nat.{ℕ, suc, ◌+◌, ◌-◌, ◌*◌, ◌≤◌, ◌<◌}
 use native.Mathlib.Omega.{arith}
 use lib.ListN.{length, set}
-use borrow.Author.Tests.{not-false, not-true}
 use Rattle.ids.specs.Id.{TRUE, ref}
-use Rattle.ids.specs.declared.NodeId.{NodeId}
 use Rattle.diagram.specs.Pieces.{Pieces}
 use Rattle.diagram.specs.Table.{variables, is_range, Table, Assignment, at, Continues, most_edges}
 use Rattle.diagram.specs.Cofactor.{edges_of}
@@ -20,22 +18,21 @@ use Rattle.algebra.specs.Changing.{is_before}
 use Rattle.algebra.proofs.Made.{Made}
 use Rattle.algebra.proofs.Descending.{Changes, means, before_yes}
 use Rattle.merging.proofs.Descent.{change_made, change_before, change_here, change_continues, change_again_same, change_stays_settled}
+use Rattle.making.specs.declared.edges.Edge.{Edge}
 use Rattle.making.specs.declared.edges.Edges as built
-use Rattle.making.specs.declared.nodes.Used.{Used}
-use Rattle.making.specs.declared.nodes.Made as code
+use Rattle.table.specs.declared.lent.Used.{Used}
+use Rattle.making.specs.Made as code
+use Rattle.making.specs.Building.{pieces_of}
 use Rattle.making.specs.Outcome.{Outcome, table_of, Mergeable}
 use Rattle.views.specs.declared.View.{View}
-use Rattle.views.specs.Seeing.{Asked, Inside, Views, child_seen, cut_seen, seen}
-use Rattle.views.proofs.Sights.{known_held, views_rising, views_kids, call_left}
-use Rattle.memo.specs.Recalling.{Hit}
+use Rattle.views.specs.Seeing.{Asked, Sees, Views, child_seen, cut_seen, seen}
+use Rattle.views.proofs.Sights.{known_held, variable_is, variable_known, sees_views, views_rising, views_kids, call_left}
+use Rattle.memo.specs.Recalling.{Framed, Noted}
 use Rattle.walks.specs.Walking.{Ready, Stepped}
-use Rattle.changes.specs.Turning.{NodeOver, over}
-use Rattle.memo.proofs.Recalled.{hit_was_noted}
-use Rattle.walks.proofs.Composing.{Grows, lent_sound, ready_readable, stepped_adds_nothing, stepped_of_outcome, stepped_equal_want}
-use Rattle.walks.proofs.Booleans.{inside_all_children}
-use Rattle.changes.proofs.Gathering.{Gather, Side, gather_starts, edge_inside, kid_asked, gather_step, gather_falls, gathered_mergeable, stepped_when_gathered}
+use Rattle.walks.proofs.Composing.{Grows, lent_sound, known_small, ready_readable, stepped_of_outcome, stepped_equal_want}
+use Rattle.changes.proofs.Gathering.{over, made_notes, want, Gather, Side, gather_starts, kid_asked, gather_stuck, gather_step, gathered_mergeable, stepped_made, stepped_noted}
 use Rattle.changes.specs.Changed.{Changed, changed}
-use Rattle.table.specs.Layout.{Store}
+use Rattle.table.specs.Layout.{most_nodes, var_at, Store}
 
 module _ (v : ℕ) (hv : v < variables) (g : Pieces ℕ → Pieces ℕ) (ch : Changes v g) where
   -- What was noted stays true of a table that continues this one.
@@ -99,28 +96,11 @@ module _ (v : ℕ) (hv : v < variables) (g : Pieces ℕ → Pieces ℕ) (ch : Ch
             ∙ (ap (λ (w : ℕ). create_over w (walk_in (not (is_range w)) (changed v g) t (edges_of t w id))) eu
             ∙ sym (change_before v hv g ch t (lent_sound r.lent) id id_known b))
 
--- What the code's test says: the node is at the variable or past it,
-pub not_before : {b x : Bool} → b ≡ x → not b ≡ true → x ≡ false
-not_before {b} e z = sym e ∙ not-true b z
-
--- or before it.
-pub still_before : {b x : Bool} → b ≡ x → not b ≡ false → x ≡ true
-still_before {b} e z = sym e ∙ not-false b z
-
-module _ {v : ℕ} {g : Pieces ℕ → Pieces ℕ} {h : Used} {st : Store} {index memo : List ℕ} (r : Ready (Changed v g) h st index memo) {n id : ℕ} (q : Asked (table_of h st) h.nodes n id)
-    (hv : v < variables) (ch : Changes v g) {b : Bool} (e : b ≡ is_before (table_of h st) v id) where
-  -- At the variable, or past it, what is made of the edges there is the answer.
-  pub stepped_at_variable : not b ≡ true → {o : code.Made} {st₁ : Store} {index₁ : List ℕ} → Outcome h (create_node (table_of h st) v (g (edges_of (table_of h st) v id))) o st st₁ index₁
+-- At the variable, or past it, what is made of the edges there is the answer.
+module _ {v : ℕ} {g : Pieces ℕ → Pieces ℕ} {h : Used} {st : Store} {index memo : List ℕ} (r : Ready (Changed v g) h st index memo) {n id : ℕ} (q : Asked (table_of h st) h.nodes n id) (hv : v < variables) (ch : Changes v g) where
+  pub stepped_at_variable : is_before (table_of h st) v id ≡ false → {o : code.Made} {st₁ : Store} {index₁ : List ℕ} → Outcome h (create_node (table_of h st) v (g (edges_of (table_of h st) v id))) o st st₁ index₁
       → Stepped (Changed v g) h (changed v g (table_of h st) id) o st memo st₁ index₁ memo
-  stepped_at_variable z o = stepped_equal_want (stepped_of_outcome r (changed_grows v hv g ch) o) (here_is v hv g ch r q (not_before e z))
-
-  -- Before it there is a node,
-  pub before_is_node : not b ≡ false → 2 ≤ id
-  before_is_node z = before_node v hv g ch r q (still_before e z)
-
-  -- and what is remembered of it is the answer.
-  pub stepped_when_recalled : not b ≡ false → (w : NodeId) → Hit memo id TRUE w.0 → Stepped (Changed v g) h (changed v g (table_of h st) id) (record { ok = true; id = w; used = h }) st memo st index memo
-  stepped_when_recalled z w x = stepped_adds_nothing r w (hit_was_noted r.recalled (omega (arith, before_is_node z)) x).becomes
+  stepped_at_variable e o = stepped_equal_want (stepped_of_outcome r (changed_grows v hv g ch) o) (here_is v hv g ch r q e)
 
 -- A node before the variable, as a step finds it: what the way down knows of it and of the view of its edges.
 pub record Entered (v : ℕ) (g : Pieces ℕ → Pieces ℕ) (h : Used) (st : Store) (index memo : List ℕ) (n id u : ℕ) (a : View) : Type 0 where
@@ -131,6 +111,21 @@ pub record Entered (v : ℕ) (g : Pieces ℕ → Pieces ℕ) (h : Used) (st : St
   pub before : is_before (table_of h st) v id ≡ true
   pub variable : u ≡ (at (table_of h st) (ref id)).var
   pub view : Views st h.nodes u id a
+
+-- So it is found, by what the code reads of it.
+pub entered : {v : ℕ} {g : Pieces ℕ → Pieces ℕ} {h : Used} {st : Store} {index memo : List ℕ} (r : Ready (Changed v g) h st index memo) {n id : ℕ} (q : Asked (table_of h st) h.nodes n id) (hv : v < variables) (ch : Changes v g) (b : is_before (table_of h st) v id ≡ true)
+    → {u : ℕ} → u ≡ var_at st.nodes (ref id - 1) → {a : View} → Sees st.nodes u id a → Entered v g h st index memo n id u a
+entered {v} {g} r {n} {id} q hv ch b e s =
+    let node : 2 ≤ id = before_node v hv g ch r q b in
+    record {
+      known = hv;
+      changes = ch;
+      ready = r;
+      asked = q;
+      before = b;
+      variable = variable_is (ready_readable r) id q.known node e;
+      view = sees_views (ready_readable r) id q.known (variable_known (ready_readable r) id q.known node e) s;
+    }
 
 -- The laws of the loop over the children of such a node.
 module _ {v : ℕ} {g : Pieces ℕ → Pieces ℕ} {h : Used} {st : Store} {index memo : List ℕ} {n id u : ℕ} {a : View} (e : Entered v g h st index memo n id u a) where
@@ -150,49 +145,44 @@ module _ {v : ℕ} {g : Pieces ℕ → Pieces ℕ} {h : Used} {st : Store} {inde
   own_made = kid_made v e.known g e.changes e.ready e.asked e.before e.variable e.view
 
   -- Before the first turn,
-  pub gather_before_first : (out : built.Edges) → length out.list ≡ most_edges → Gather f h st memo a u (Changed v g) h st index memo out true a.count
+  pub gather_before_first : (out : built.Edges) → length out.list ≡ most_edges → Gather f h st memo a u (Changed v g) h st index memo out 0
   gather_before_first = gather_starts f h st memo a u own_grows e.ready own_side m own_made
 
-  module _ {now : Used} {st₁ : Store} {index₁ memo₁ : List ℕ} {out : built.Edges} {ok : Bool} {left : ℕ}
-      (l : Gather f h st memo a u (Changed v g) now st₁ index₁ memo₁ out ok left) where
-    -- in each, whose view lies within the slices,
-    pub in_children : Inside (length st₁.children) a
-    in_children = inside_all_children e.ready own_side.inside l.stays.wide
-
-    pub in_cuts : Inside (length st₁.cuts) a
-    in_cuts = inside_all_children e.ready own_side.inside (l.ready.lent.allowed.cut_each ∙ l.stays.wide)
-
-    module _ (on : 0 < left) {i : ℕ} (ei : i ≡ cond (is_range u) (a.count - left) (left - 1)) where
-      -- with an edge that has a slot,
-      pub in_view : i < a.count
-      in_view = edge_inside f h st memo a u own_grows e.ready own_side m own_made l on ei
-
-      pub in_slots : i < most_edges
-      in_slots = omega (arith, in_view, own_side.inside.most)
-
+  module _ {now : Used} {st₁ : Store} {index₁ memo₁ : List ℕ} {out : built.Edges} {done : ℕ} (l : Gather f h st memo a u (Changed v g) now st₁ index₁ memo₁ out done) where
+    module _ (on : done < a.count) {i : ℕ} (ei : i ≡ cond (is_range u) (a.count - (a.count - done)) (a.count - done - 1)) where
       module _ {x : ℕ} (rx : x ≡ child_seen st₁.children a i) where
         -- whose child may be asked about,
         pub below_asked : Asked (table_of now st₁) now.nodes (n - 1) x
         below_asked = kid_asked f h st memo a u own_grows e.ready own_side m own_made l on ei rx
             (enough v e.known g e.changes e.ready e.asked e.before e.variable e.view)
 
-        module _ {k : ℕ} (rk : i + 1 < a.count → k ≡ cut_seen st₁.cuts u a i) {d : code.Made} {st₂ : Store} {index₂ memo₂ : List ℕ}
-            (s : Stepped (Changed v g) now (f (table_of now st₁) x) d st₁ memo₁ st₂ index₂ memo₂) {left₂ : ℕ} (el : (d.ok ≡ true → left₂ ≡ left - 1) × (d.ok ≡ false → left₂ ≡ 0)) where
-          -- after it,
-          pub gather_after_turn : Gather f h st memo a u (Changed v g) d.used st₂ index₂ memo₂ (record { list = set out.list i (record { cut = k; child = d.id; spare = 0 }); len = out.len }) d.ok left₂
-          gather_after_turn = gather_step f h st memo a u own_grows e.ready own_side m own_made l on ei rx rk s el
+        module _ {d : code.Made} {st₂ : Store} {index₂ memo₂ : List ℕ} (s : Stepped (Changed v g) now (f (table_of now st₁) x) d st₁ memo₁ st₂ index₂ memo₂) where
+          -- where it has no room,
+          pub stepped_stuck : d.ok ≡ false → Stepped (Changed v g) h (changed v g (table_of h st) id) d st memo st₂ index₂ memo₂
+          stepped_stuck bad = stepped_equal_want (gather_stuck f h st memo a u own_grows e.ready own_side m own_made l on ei rx s bad) (over_is v e.known g e.changes e.ready e.asked e.before e.variable e.view)
 
-          pub loop_falls : left₂ < left
-          loop_falls = gather_falls f h st memo a u own_grows e.ready own_side m own_made l on ei rx rk s el
+          -- after it,
+          pub gather_after_turn : d.ok ≡ true → {k : ℕ} → (i + 1 < a.count → k ≡ cut_seen st₁.cuts u a i) → {s₂ : Edge} → s₂ ≡ record { cut = k; child = d.id; spare = 0 }
+              → Gather f h st memo a u (Changed v g) d.used st₂ index₂ memo₂ (record { list = set out.list i s₂; len = out.len }) (done + 1)
+          gather_after_turn good rk new = gather_step f h st memo a u own_grows e.ready own_side m own_made l on ei rx s good rk new
 
     -- and after the last.
-    module _ (off : left ≡ 0) where
-      pub entered_mergeable : ok ≡ true → Mergeable (table_of now st₁) u (record { list = out.list; len = a.count })
+    module _ (off : a.count ≤ done) where
+      pub entered_mergeable : Mergeable (table_of now st₁) u (record { list = out.list; len = a.count })
       entered_mergeable = gathered_mergeable f h st memo a u own_grows e.ready own_side m own_made l off
 
-      pub stepped_after_last : {o : code.Made} {st₂ : Store} {index₂ memo₂ : List ℕ} → NodeOver ok now id u (record { list = out.list; len = a.count }) st₁ index₁ memo₁ o st₂ index₂ memo₂
-          → Stepped (Changed v g) h (changed v g (table_of h st) id) o st memo st₂ index₂ memo₂
-      stepped_after_last x =
-          let o = over_is v e.known g e.changes e.ready e.asked e.before e.variable e.view in
-          stepped_equal_want (stepped_when_gathered f h st memo a u own_grows e.ready own_side m own_made l off
-          (λ s z p q. noted_is v e.known g e.changes e.ready e.asked (p ∙ ap (λ (x : Table × ℕ). x.0) o) (q ∙ ap (λ (x : Table × ℕ). x.1) o)) x) o
+      module _ {o : code.Made} {st₂ : Store} {index₂ : List ℕ} (x : Outcome now (create_node (table_of now st₁) u (pieces_of (record { list = out.list; len = a.count }))) o st₁ st₂ index₂) where
+        over_want : want f h st memo a u ≡ changed v g (table_of h st) id
+        over_want = over_is v e.known g e.changes e.ready e.asked e.before e.variable e.view
+
+        -- What the memo asks,
+        pub over_notes : o.ok ≡ true → (8 ≤ length memo₁) × (length memo₁ ≤ most_nodes * 8) × Framed memo₁ × (id < 262144) × (TRUE < 262144) × (o.id.0 < 262144) × (u < variables)
+        over_notes good = made_notes l.ready.lent l.ready.long l.ready.recalled.framed (known_small e.ready.lent e.asked.known) entered_mergeable x good
+
+        -- and the answer, noted or not.
+        pub stepped_over : Stepped (Changed v g) h (changed v g (table_of h st) id) o st memo st₂ index₂ memo₁
+        stepped_over = stepped_equal_want (stepped_made f h st memo a u own_grows e.ready own_side m own_made l off x) over_want
+
+        pub stepped_over_noted : o.ok ≡ true → {memo₂ : List ℕ} → Noted memo₁ id TRUE o.id.0 memo₂ → Stepped (Changed v g) h (changed v g (table_of h st) id) o st memo st₂ index₂ memo₂
+        stepped_over_noted good z = stepped_equal_want (stepped_noted f h st memo a u own_grows e.ready own_side m own_made l off x
+            (λ s y p q. noted_is v e.known g e.changes e.ready e.asked (p ∙ ap (λ (x : Table × ℕ). x.0) over_want) (q ∙ ap (λ (x : Table × ℕ). x.1) over_want)) good z) over_want

@@ -29,16 +29,19 @@ use Rattle.views.specs.Seeing.{Asked, Inside, child_seen, cut_seen, seen}
 use Rattle.views.proofs.Sights.{known_used, seen_each, child_seen_stays, cut_seen_stays}
 use Rattle.making.specs.declared.edges.Edge.{Edge}
 use Rattle.making.specs.declared.edges.Edges as built
-use Rattle.making.specs.declared.nodes.Used.{Used}
-use Rattle.making.specs.declared.nodes.Made as code
+use Rattle.table.specs.declared.lent.Used.{Used}
+use Rattle.making.specs.Made as code
 use Rattle.making.specs.Building.{none, child_in, cut_in, pieces_of}
 use Rattle.making.specs.Outcome.{Lent, Stays, Outcome, Mergeable, table_of}
 use Rattle.making.proofs.Kept.{stays_refl, stays_trans, stays_continues}
-use Rattle.memo.specs.Recalling.{Framed}
+use Rattle.memo.specs.Recalling.{Framed, Noted}
 use Rattle.walks.specs.Walking.{Note, Ready, Stepped}
-use Rattle.changes.specs.Turning.{NodeOver, over}
 use Rattle.walks.proofs.Composing.{Grows, lent_sound, known_small, ready_after_step, stepped_then_outcome, stepped_equal_want, stepped_with_note}
 use Rattle.walks.proofs.Booleans.{asked_kid}
+
+-- The node of variable v over one side, an operation being done on each child, in one of the two orders.
+unfoldable pub over : Bool → (Table → ℕ → Table × ℕ) → Table → ℕ → Pieces ℕ → Table × ℕ
+over back f t v e = create_over v (walk_in back f t e)
 
 -- What the memo asks of an answer that was made here and is to be noted.
 pub made_notes : {h : Used} {st : Store} {index memo : List ℕ} → Lent h st index → MemoLengths (length memo) (room st.nodes) → Framed memo → {x : ℕ} → x < 262144 → {u : ℕ} {es : built.Edges} → Mergeable (table_of h st) u es
@@ -64,17 +67,16 @@ module _ (f : Table → ℕ → Table × ℕ) (h : Used) (st : Store) (memo : Li
   abbrev pub want : Table × ℕ
   want = over back f t u (seen st.children st.cuts u a 0)
 
-  -- With so many turns left the table is the one of the turns that were, and each answer stands in its child's place; or there was no room.
-  pub record Gather (P : Note) (now : Used) (st' : Store) (index' memo' : List ℕ) (out : built.Edges) (ok : Bool) (left : ℕ) : Type 0 where
+  -- After so many turns the table is the one of those turns, and each answer stands in its child's place.
+  pub record Gather (P : Note) (now : Used) (st' : Store) (index' memo' : List ℕ) (out : built.Edges) (done : ℕ) : Type 0 where
     pub ready : Ready P now st' index' memo'
     pub stays : Stays h st now st'
     pub long : length memo' ≡ length memo
     pub size : length out.list ≡ most_edges
-    pub most : left ≤ a.count
-    pub table : ok ≡ true → table_of now st' ≡ table_at f t back n c (a.count - left)
-    pub child : ok ≡ true → (j : ℕ) → j < a.count - left → child_in out (turn back n j) ≡ answer_at f t back n c j
-    pub cut : ok ≡ true → (j : ℕ) → j < a.count - left → turn back n j < n → cut_in out (turn back n j) ≡ cut_seen st.cuts u a (turn back n j)
-    pub full : ok ≡ false → (left ≡ 0) × (Fits (room st.nodes) (length st.children) want.0 → ⊥)
+    pub most : done ≤ a.count
+    pub table : table_of now st' ≡ table_at f t back n c done
+    pub child : (j : ℕ) → j < done → child_in out (turn back n j) ≡ answer_at f t back n c j
+    pub cut : (j : ℕ) → j < done → turn back n j < n → cut_in out (turn back n j) ≡ cut_seen st.cuts u a (turn back n j)
 
   -- The side: a node's edges at its variable.
   pub record Side : Type 0 where
@@ -106,129 +108,109 @@ module _ (f : Table → ℕ → Table × ℕ) (h : Used) (st : Store) (memo : Li
     unfolding over
     want_is = ap (create_over u) walk_is
 
-    pub gather_starts : (out : built.Edges) → length out.list ≡ most_edges → Gather P h st index memo out true a.count
+    pub gather_starts : (out : built.Edges) → length out.list ≡ most_edges → Gather P h st index memo out 0
     unfolding table_at
-    gather_starts out size =
-        let z : a.count - a.count ≡ 0 = omega arith in
-        record {
-          ready = r;
-          stays = stays_refl;
-          long = refl;
-          size = size;
-          most = omega arith;
-          table = λ q. rw z refl;
-          child = λ q j l. absurd (omega arith);
-          cut = λ q j l. absurd (omega arith);
-          full = λ q. absurd (not_false_and_true q refl);
-        }
+    gather_starts out size = record {
+      ready = r;
+      stays = stays_refl;
+      long = refl;
+      size = size;
+      most = omega arith;
+      table = refl;
+      child = λ j l. absurd (omega arith);
+      cut = λ j l. absurd (omega arith);
+    }
 
-    module _ {now : Used} {st₁ : Store} {index₁ memo₁ : List ℕ} {out : built.Edges} {ok : Bool} {left : ℕ}
-        (l : Gather P now st₁ index₁ memo₁ out ok left) where
+    module _ {now : Used} {st₁ : Store} {index₁ memo₁ : List ℕ} {out : built.Edges} {done : ℕ} (l : Gather P now st₁ index₁ memo₁ out done) where
       abbrev w : Table
       w = table_of now st₁
 
-      module _ (on : 0 < left) {i : ℕ} (ei : i ≡ cond (is_range u) (a.count - left) (left - 1)) where
-        abbrev j : ℕ
-        j = a.count - left
-
-        turn_is : i ≡ turn back n j
+      module _ (on : done < a.count) {i : ℕ} (ei : i ≡ cond (is_range u) (a.count - (a.count - done)) (a.count - done - 1)) where
+        turn_is : i ≡ turn back n done
         unfolding turn
         turn_is = ⊎_elim
-            (λ e. rw (lt-ltb u first_boolean e) (rw (lt-ltb u first_boolean e) at ei))
-            (λ e. rw (le-ltb u first_boolean e) (omega (arith, on, l.most, rw (le-ltb u first_boolean e) at ei)))
+            (λ e. rw (lt-ltb u first_boolean e) (omega (arith, on, rw (lt-ltb u first_boolean e) at ei)))
+            (λ e. rw (le-ltb u first_boolean e) (omega (arith, on, rw (le-ltb u first_boolean e) at ei)))
             (lt_or_le u first_boolean)
 
-        here : j ≤ n
-        here = omega (arith, on, l.most)
-
-        still_ok : ok ≡ true
-        still_ok = go ok refl
-          where
-            go : (b : Bool) → ok ≡ b → ok ≡ true
-            go true e = e
-            go false e = absurd (omega (arith, on, (l.full e).0))
+        here : done ≤ n
+        here = omega (arith, on)
 
         -- The edge is one of the view's.
         pub edge_inside : i < a.count
-        edge_inside = omega (arith, turn_is, turn_inside back n j here, s.inside.some)
+        edge_inside = omega (arith, turn_is, turn_inside back n done here, s.inside.some)
 
         module _ {x : ℕ} (rx : x ≡ child_seen st₁.children a i) where
-          ex : x ≡ c (turn back n j)
+          ex : x ≡ c (turn back n done)
           ex = rx ∙ (child_seen_stays st.children st₁.children st.cuts st₁.cuts u h.edges a s.inside l.stays.child i edge_inside ∙ ap c turn_is)
 
           grown : Child w (suc u) x
-          grown = subst (Child w (suc u)) (sym ex) (continues_child (stays_continues r.lent l.stays) (suc u) _ (kid (turn back n j) (turn_inside back n j here)))
+          grown = subst (Child w (suc u)) (sym ex) (continues_child (stays_continues r.lent l.stays) (suc u) _ (kid (turn back n done) (turn_inside back n done here)))
 
           -- Its child may be asked about.
           pub kid_asked : {q : ℕ} → variables < suc u + q → Asked w now.nodes q x
           kid_asked e = asked_kid now st₁ e grown
 
-          module _ {k : ℕ} (rk : i + 1 < a.count → k ≡ cut_seen st₁.cuts u a i) {d : code.Made} {st₂ : Store} {index₂ memo₂ : List ℕ}
-              (e : Stepped P now (f w x) d st₁ memo₁ st₂ index₂ memo₂) {left₂ : ℕ} (el : (d.ok ≡ true → left₂ ≡ left - 1) × (d.ok ≡ false → left₂ ≡ 0)) where
-            abbrev out₂ : built.Edges
-            out₂ = record { list = set out.list i (record { cut = k; child = d.id; spare = 0 }); len = out.len }
+          module _ {d : code.Made} {st₂ : Store} {index₂ memo₂ : List ℕ} (e : Stepped P now (f w x) d st₁ memo₁ st₂ index₂ memo₂) where
+            answer : f w x ≡ f (table_at f t back n c done) (c (turn back n done))
+            answer = ap₂ f l.table ex
 
-            answer : f w x ≡ f (table_at f t back n c j) (c (turn back n j))
-            answer = ap₂ f (l.table still_ok) ex
+            moved : {b : Table} → Fits (room st.nodes) (length st.children) b → Fits (room st₁.nodes) (length st₁.children) b
+            moved {b} z = subst (λ (q : ℕ). Fits q (length st₁.children) b) (ap (λ (q : ℕ). q / 4) (sym l.stays.long)) (subst (λ (q : ℕ). Fits (room st.nodes) q b) (sym l.stays.wide) z)
 
-            fewer : d.ok ≡ true → a.count - left₂ ≡ suc j
-            fewer good = omega (arith, on, l.most, el.0 good)
-
-            put : get_or out₂.list i none ≡ record { cut = k; child = d.id; spare = 0 }
-            put = get_or-set_same out.list i (record { cut = k; child = d.id; spare = 0 }) none (omega (arith, l.size, edge_inside, s.inside.most))
-
-            apart : (p : ℕ) → p < j → turn back n p ≡ i → ⊥
-            apart p q z = omega (arith, turn_inj back n p j (omega (arith, here)) here (z ∙ turn_is))
-
-            other : (p : ℕ) → p < j → get_or out₂.list (turn back n p) none ≡ get_or out.list (turn back n p) none
-            other p q = get_or-set_other out.list i (turn back n p) (record { cut = k; child = d.id; spare = 0 }) none (apart p q)
-
-            child_now : d.ok ≡ true → (p : ℕ) → p < suc j → Dec (p ≡ j) → child_in out₂ (turn back n p) ≡ answer_at f t back n c p
-            child_now good p q (yes z) =
-                let o : child_in out₂ i ≡ d.id.0 = ap (λ (y : Edge). y.child.0) put in
-                rw z (ap (child_in out₂) (sym turn_is) ∙ (o ∙ (e.outcome.id good ∙ (ap (λ (y : Table × ℕ). y.1) answer ∙ sym (answer_at_turn f t back n c j)))))
-            child_now good p q (no z) = ap (λ (y : Edge). y.child.0) (other p (omega (arith, z))) ∙ l.child still_ok p (omega (arith, z))
-
-            cut_now : (p : ℕ) → p < suc j → turn back n p < n → Dec (p ≡ j) → cut_in out₂ (turn back n p) ≡ cut_seen st.cuts u a (turn back n p)
-            cut_now p q b (yes z) =
-                let o : cut_in out₂ i ≡ k = ap (λ (y : Edge). y.cut) put in
-                let g : i + 1 < a.count = omega (arith, turn_is, rw z at b, s.inside.some) in
-                rw z (ap (cut_in out₂) (sym turn_is) ∙ (o ∙ (rk g ∙ (cut_seen_stays st.children st₁.children st.cuts st₁.cuts u h.edges a s.inside l.stays.cut i g ∙ ap (cut_seen st.cuts u a) turn_is))))
-            cut_now p q b (no z) = ap (λ (y : Edge). y.cut) (other p (omega (arith, z))) ∙ l.cut still_ok p (omega (arith, z)) b
-
-            -- One turn of the loop,
-            pub gather_step : Gather P d.used st₂ index₂ memo₂ out₂ d.ok left₂
-            gather_step = record {
-              ready = ready_after_step l.ready e;
-              stays = stays_trans l.stays e.outcome.stays;
+            -- Where it found no room, there is none for the node either;
+            pub gather_stuck : d.ok ≡ false → Stepped P h want d st memo st₂ index₂ memo₂
+            gather_stuck bad = record {
+              outcome = record {
+                lent = e.outcome.lent;
+                stays = stays_trans l.stays e.outcome.stays;
+                table = λ q. absurd (not_false_and_true bad q);
+                id = λ q. absurd (not_false_and_true bad q);
+                full = λ q y. not_fits_turn_full f t back n c (lent_sound r.lent) (suc u) m made kid done here u (run answers (cut_seen st.cuts u a) 0 n) (room st.nodes) (length st.children)
+                    (λ fit. e.outcome.full bad (moved (subst (λ (o : Table × ℕ). Fits (room st.nodes) (length st.children) o.0) (sym answer) fit))) (subst (λ (o : Table × ℕ). Fits (room st.nodes) (length st.children) o.0) want_is y);
+              };
               long = e.long ∙ l.long;
-              size = simp length-set l.size;
-              most = go d.ok refl;
-              table = λ good. e.outcome.table good ∙ (ap (λ (y : Table × ℕ). y.0) answer ∙ (sym (table_next f t back n c j) ∙ ap (table_at f t back n c) (sym (fewer good))));
-              child = λ good p q. child_now good p (omega (arith, fewer good)) (ℕ_discrete p j);
-              cut = λ good p q b. cut_now p (omega (arith, fewer good)) b (ℕ_discrete p j);
-              full = λ bad. (el.1 bad, no_room bad);
+              recalled = e.recalled;
             }
-              where
-                go : (b : Bool) → d.ok ≡ b → left₂ ≤ a.count
-                go true g = omega (arith, el.0 g, l.most)
-                go false g = omega (arith, el.1 g)
 
-                moved : {b : Table} → Fits (room st.nodes) (length st.children) b → Fits (room st₁.nodes) (length st₁.children) b
-                moved {b} z = subst (λ (q : ℕ). Fits q (length st₁.children) b) (ap (λ (q : ℕ). q / 4) (sym l.stays.long)) (subst (λ (q : ℕ). Fits (room st.nodes) q b) (sym l.stays.wide) z)
+            -- else its answer gets its edge.
+            module _ (good : d.ok ≡ true) {k : ℕ} (rk : i + 1 < a.count → k ≡ cut_seen st₁.cuts u a i) {s₂ : Edge} (new : s₂ ≡ record { cut = k; child = d.id; spare = 0 }) where
+              abbrev out₂ : built.Edges
+              out₂ = record { list = set out.list i s₂; len = out.len }
 
-                no_room : d.ok ≡ false → Fits (room st.nodes) (length st.children) want.0 → ⊥
-                no_room bad y =
-                    not_fits_turn_full f t back n c (lent_sound r.lent) (suc u) m made kid j here u (run answers (cut_seen st.cuts u a) 0 n) (room st.nodes) (length st.children)
-                    (λ fit. e.outcome.full bad (moved (subst (λ (o : Table × ℕ). Fits (room st.nodes) (length st.children) o.0) (sym answer) fit))) (subst (λ (o : Table × ℕ). Fits (room st.nodes) (length st.children) o.0) want_is y)
+              put : get_or out₂.list i none ≡ record { cut = k; child = d.id; spare = 0 }
+              put = get_or-set_same out.list i s₂ none (omega (arith, l.size, edge_inside, s.inside.most)) ∙ new
 
-            -- which falls.
-            pub gather_falls : left₂ < left
-            gather_falls = go d.ok refl
-              where
-                go : (b : Bool) → d.ok ≡ b → left₂ < left
-                go true g = omega (arith, el.0 g, on)
-                go false g = omega (arith, el.1 g, on)
+              apart : (p : ℕ) → p < done → turn back n p ≡ i → ⊥
+              apart p q z = omega (arith, turn_inj back n p done (omega (arith, here)) here (z ∙ turn_is))
+
+              other : (p : ℕ) → p < done → get_or out₂.list (turn back n p) none ≡ get_or out.list (turn back n p) none
+              other p q = get_or-set_other out.list i (turn back n p) s₂ none (apart p q)
+
+              child_now : (p : ℕ) → p < done + 1 → Dec (p ≡ done) → child_in out₂ (turn back n p) ≡ answer_at f t back n c p
+              child_now p q (yes z) =
+                  let o : child_in out₂ i ≡ d.id.0 = ap (λ (y : Edge). y.child.0) put in
+                  rw z (ap (child_in out₂) (sym turn_is) ∙ (o ∙ (e.outcome.id good ∙ (ap (λ (y : Table × ℕ). y.1) answer ∙ sym (answer_at_turn f t back n c done)))))
+              child_now p q (no z) = ap (λ (y : Edge). y.child.0) (other p (omega (arith, z))) ∙ l.child p (omega (arith, z))
+
+              cut_now : (p : ℕ) → p < done + 1 → turn back n p < n → Dec (p ≡ done) → cut_in out₂ (turn back n p) ≡ cut_seen st.cuts u a (turn back n p)
+              cut_now p q b (yes z) =
+                  let o : cut_in out₂ i ≡ k = ap (λ (y : Edge). y.cut) put in
+                  let g : i + 1 < a.count = omega (arith, turn_is, rw z at b, s.inside.some) in
+                  rw z (ap (cut_in out₂) (sym turn_is) ∙ (o ∙ (rk g ∙ (cut_seen_stays st.children st₁.children st.cuts st₁.cuts u h.edges a s.inside l.stays.cut i g ∙ ap (cut_seen st.cuts u a) turn_is))))
+              cut_now p q b (no z) = ap (λ (y : Edge). y.cut) (other p (omega (arith, z))) ∙ l.cut p (omega (arith, z)) b
+
+              pub gather_step : Gather P d.used st₂ index₂ memo₂ out₂ (done + 1)
+              gather_step = record {
+                ready = ready_after_step l.ready e;
+                stays = stays_trans l.stays e.outcome.stays;
+                long = e.long ∙ l.long;
+                size = simp length-set l.size;
+                most = omega (arith, on);
+                table = let z : suc done ≡ done + 1 = omega arith in e.outcome.table good ∙ (ap (λ (y : Table × ℕ). y.0) answer ∙ (sym (table_next f t back n c done) ∙ ap (table_at f t back n c) z));
+                child = λ p q. child_now p q (ℕ_discrete p done);
+                cut = λ p q b. cut_now p q b (ℕ_discrete p done);
+              }
 
       -- What is done so far.
       pub so_far : Stepped P h (w, 0) (record { ok = true; id = record { 0 = 0 }; used = now }) st memo st₁ index₁ memo₁
@@ -239,63 +221,47 @@ module _ (f : Table → ℕ → Table × ℕ) (h : Used) (st : Store) (memo : Li
       }
 
       -- No turn is left.
-      module _ (off : left ≡ 0) where
+      module _ (off : a.count ≤ done) where
         abbrev closed : built.Edges
         closed = record { list = out.list; len = a.count }
 
-        all_turns : a.count - left ≡ suc n
-        all_turns = omega (arith, off, s.inside.some)
+        all_turns : done ≡ suc n
+        all_turns = omega (arith, off, l.most, s.inside.some)
 
-        module _ (good : ok ≡ true) where
-          child_at_lem : (i : ℕ) → i ≤ n → child_in out i ≡ answers i
-          child_at_lem i b = subst (λ (p : ℕ). child_in out p ≡ answers i) (turn_turn back n i b) (l.child good (turn back n i) (omega (arith, all_turns, turn_inside back n i b)))
+        child_at_lem : (i : ℕ) → i ≤ n → child_in out i ≡ answers i
+        child_at_lem i b = subst (λ (p : ℕ). child_in out p ≡ answers i) (turn_turn back n i b) (l.child (turn back n i) (omega (arith, all_turns, turn_inside back n i b)))
 
-          cut_at : (i : ℕ) → i < n → cut_in out i ≡ cut_seen st.cuts u a i
-          cut_at i b =
-              let z = turn_turn back n i (omega arith) in
-              subst (λ (p : ℕ). cut_in out p ≡ cut_seen st.cuts u a p) z (l.cut good (turn back n i) (omega (arith, all_turns, turn_inside back n i (omega arith))) (omega (arith, z)))
+        cut_at : (i : ℕ) → i < n → cut_in out i ≡ cut_seen st.cuts u a i
+        cut_at i b =
+            let z = turn_turn back n i (omega arith) in
+            subst (λ (p : ℕ). cut_in out p ≡ cut_seen st.cuts u a p) z (l.cut (turn back n i) (omega (arith, all_turns, turn_inside back n i (omega arith))) (omega (arith, z)))
 
-          pieces_are : pieces_of closed ≡ run answers (cut_seen st.cuts u a) 0 n
-          pieces_are = run_shift (child_in out) answers (cut_in out) (cut_seen st.cuts u a) 0 0 n
-              (λ i b. let y : 0 + i ≡ i = omega arith in rw y (child_at_lem i b))
-              (λ i b. let y : 0 + i ≡ i = omega arith in rw y (cut_at i b))
+        pieces_are : pieces_of closed ≡ run answers (cut_seen st.cuts u a) 0 n
+        pieces_are = run_shift (child_in out) answers (cut_in out) (cut_seen st.cuts u a) 0 0 n
+            (λ i b. let y : 0 + i ≡ i = omega arith in rw y (child_at_lem i b))
+            (λ i b. let y : 0 + i ≡ i = omega arith in rw y (cut_at i b))
 
-          table_is : w ≡ table_at f t back n c (suc n)
-          table_is = l.table good ∙ ap (table_at f t back n c) all_turns
+        table_is : w ≡ table_at f t back n c (suc n)
+        table_is = l.table ∙ ap (table_at f t back n c) all_turns
 
-          pub gathered_mergeable : Mergeable w u closed
-          gathered_mergeable = record {
-            building = record { size = l.size; some = s.inside.some; most = s.inside.most };
-            known = s.known;
-            rises = subst (Rising 0 (top_of u)) (sym pieces_are) (rising_same_cuts c answers (cut_seen st.cuts u a) 0 (top_of u) 0 n seen_rises);
-            kids = subst (Each (Child w (suc u))) (sym pieces_are) (subst (λ (b : Table). Each (Child b (suc u)) (run answers (cut_seen st.cuts u a) 0 n)) (sym table_is)
-                (each_of_run (Child (table_at f t back n c (suc n)) (suc u)) answers (cut_seen st.cuts u a) 0 n (λ i p q. answer_child f t back n c (lent_sound r.lent) (suc u) m made kid (turn back n i) (turn_inside back n i (omega arith)))));
-          }
+        -- A node can be made of the answers,
+        pub gathered_mergeable : Mergeable w u closed
+        gathered_mergeable = record {
+          building = record { size = l.size; some = s.inside.some; most = s.inside.most };
+          known = s.known;
+          rises = subst (Rising 0 (top_of u)) (sym pieces_are) (rising_same_cuts c answers (cut_seen st.cuts u a) 0 (top_of u) 0 n seen_rises);
+          kids = subst (Each (Child w (suc u))) (sym pieces_are) (subst (λ (b : Table). Each (Child b (suc u)) (run answers (cut_seen st.cuts u a) 0 n)) (sym table_is)
+              (each_of_run (Child (table_at f t back n c (suc n)) (suc u)) answers (cut_seen st.cuts u a) 0 n (λ i p q. answer_child f t back n c (lent_sound r.lent) (suc u) m made kid (turn back n i) (turn_inside back n i (omega arith)))));
+        }
 
-          made_is : create_node w u (pieces_of closed) ≡ want
-          made_is = ap₂ (λ (b : Table) (p : Pieces ℕ). create_node b u p) table_is pieces_are ∙ sym want_is
+        made_is : create_node w u (pieces_of closed) ≡ want
+        made_is = ap₂ (λ (b : Table) (p : Pieces ℕ). create_node b u p) table_is pieces_are ∙ sym want_is
 
-        -- The node over the answers, and what is noted of it.
-        pub stepped_when_gathered : {x : ℕ} → ((t' : Table) (z : ℕ) → t' ≡ want.0 → z ≡ want.1 → P t' x TRUE z) → {o : code.Made} {st₂ : Store} {index₂ memo₂ : List ℕ}
-            → NodeOver ok now x u closed st₁ index₁ memo₁ o st₂ index₂ memo₂ → Stepped P h want o st memo st₂ index₂ memo₂
-        stepped_when_gathered {x} note {o} {st₂} {index₂} {memo₂} v = go ok refl
-          where
-            go : (b : Bool) → ok ≡ b → Stepped P h want o st memo st₂ index₂ memo₂
-            go true good = last o.ok refl (stepped_equal_want (stepped_then_outcome r so_far grows (v.made good)) (made_is good))
-              where
-                last : (b : Bool) → o.ok ≡ b → Stepped P h want o st memo st₂ index₂ memo₁ → Stepped P h want o st memo st₂ index₂ memo₂
-                last true y q = stepped_with_note q (note _ _ (q.outcome.table y) (q.outcome.id y)) (v.noted good y)
-                last false y q = rw (v.not_noted good y) q
-            go false bad =
-                let z = v.nothing bad in
-                record {
-                  outcome = record {
-                    lent = rw (z.1, z.2.same, z.2.index_same) l.ready.lent;
-                    stays = rw (z.1, z.2.same) l.stays;
-                    table = λ q. absurd (not_false_and_true z.0 q);
-                    id = λ q. absurd (not_false_and_true z.0 q);
-                    full = λ q. (l.full bad).1;
-                  };
-                  long = rw z.3 l.long;
-                  recalled = rw (z.1, z.2.same, z.3) l.ready.recalled;
-                }
+        -- which is the one that is wanted,
+        module _ {o : code.Made} {st₂ : Store} {index₂ : List ℕ} (v : Outcome now (create_node w u (pieces_of closed)) o st₁ st₂ index₂) where
+          pub stepped_made : Stepped P h want o st memo st₂ index₂ memo₁
+          stepped_made = stepped_equal_want (stepped_then_outcome r so_far grows v) made_is
+
+          -- and is noted.
+          pub stepped_noted : {x : ℕ} → ((t' : Table) (z : ℕ) → t' ≡ want.0 → z ≡ want.1 → P t' x TRUE z) → o.ok ≡ true → {memo₂ : List ℕ} → Noted memo₁ x TRUE o.id.0 memo₂ → Stepped P h want o st memo st₂ index₂ memo₂
+          stepped_noted note good z = stepped_with_note stepped_made (note _ _ (stepped_made.outcome.table good) (stepped_made.outcome.id good)) z

@@ -3,6 +3,5 @@ pub mod Gathering
 pub mod Looking
 pub mod Bottom
 pub mod Down
-pub mod Ways
 pub mod Bounds
 pub mod Restricting

@@ -32,3 +32,7 @@ before_is {st} {u} r id k {v} hv e = e ∙ ⊎_elim end node (lt_or_le id 2)
 
     node : 2 ≤ id → (ltb 1 id && ltb (var_at st.nodes (ref id - 1)) v) ≡ is_before t v id
     node l = rw (lt-ltb 1 id (omega arith)) (ap (λ (w : ℕ). ltb w v) (variable_is r id k l (λ i. var_at st.nodes (ref id - 1))))
+
+-- The same, of the variable as a change has it.
+pub tested : {st : Store} {u : ℕ} → Readable st u → (id : ℕ) → KnownTo u id → {v w : ℕ} → w ≡ v → w < variables → {b : Bool} → b ≡ (ltb 1 id && ltb (var_at st.nodes (ref id - 1)) w) → is_before (held st u) v id ≡ b
+tested r id k e hv q = sym (rw e at (before_is r id k hv q))

@@ -1,7 +1,6 @@
 -- Restriction of a boolean variable: the edge that is chosen at it. Assumes nothing.
 use mathlib.Core.Path.{◌≡◌, refl, sym, ◌∙◌, ap, subst}
 use mathlib.Core.Bool.{Bool, true, false, cond, not}
-use mathlib.Core.List.{List}
 use Prim.Native.Nat.{ℕ, ◌-◌, ◌≤◌, ◌<◌}
 use native.Mathlib.Omega.{arith}
 use native.Mathlib.Decide.{ℕ_discrete}
@@ -11,22 +10,16 @@ use Rattle.diagram.specs.Shape.{Rising}
 use Rattle.diagram.specs.Table.{variables, first_boolean, top_of, Table, at}
 use Rattle.diagram.specs.Cofactor.{edges_of}
 use Rattle.diagram.proofs.Cofactors.{edge_other}
-use Rattle.algebra.specs.Changing.{is_before}
-use Rattle.algebra.proofs.Descending.{Changes}
-use Rattle.algebra.proofs.Changed.{fixed_changes}
 use Rattle.merging.proofs.Conjoined as joined
 use Rattle.merging.proofs.Bottoms.{create_last}
 use Rattle.table.specs.Held.{held}
-use Rattle.making.specs.declared.nodes.Used.{Used}
-use Rattle.making.specs.Outcome.{table_of}
 use Rattle.views.specs.declared.View.{View}
-use Rattle.views.specs.Seeing.{Readable, Asked, Views, child_seen, seen}
+use Rattle.views.specs.Seeing.{Readable, Views, child_seen, seen}
 use Rattle.views.proofs.Sights.{known_held, views_rising}
-use Rattle.walks.specs.Walking.{Ready}
 use Rattle.walks.proofs.Halves.{half, sides_of_seen}
-use Rattle.changes.specs.Changed.{Changed, changed, restricting}
-use Rattle.changes.proofs.Down.{here_is}
+use Rattle.changes.specs.Changed.{restricting}
 use Rattle.table.specs.Layout.{Store}
+use Rattle.algebra.specs.Making.{create_node}
 
 -- Of one edge or two, the one at position 0 is the high one, and the one at position 1 the low one.
 select_half : {e : Pieces ℕ} {high low : ℕ} → joined.HighLow e high low → (value : Bool) → cond value high low ≡ select e (cond value 0 1)
@@ -55,14 +48,6 @@ module _ {st : Store} {u v id : ℕ} {a : View} (r : Readable st u) (k : KnownTo
       go true = refl
       go false = refl
 
--- Restriction is a change.
-abbrev pub restricts : (v : ℕ) (value : Bool) → Changes v (restricting value)
-restricts v value = fixed_changes v (cond value 0 1)
-
 -- At the variable, or past it, the child of the value is the answer, and no node is made.
-pub chosen_here : {v : ℕ} (hv : v < variables) (value : Bool) {h : Used} {st : Store} {index memo : List ℕ} → Ready (Changed v (restricting value)) h st index memo
-    → {n id : ℕ} → Asked (table_of h st) h.nodes n id → {before : Bool} → before ≡ is_before (table_of h st) v id → before ≡ false
-    → {c : ℕ} → c ≡ select (edges_of (table_of h st) v id) (cond value 0 1) → changed v (restricting value) (table_of h st) id ≡ (table_of h st, c)
-chosen_here {v} hv value {h} {st} r {n} {id} q e f {c} p =
-    let t = table_of h st in
-    sym (here_is v hv (restricting value) (restricts v value) r q (sym e ∙ f)) ∙ (create_last t v _ ∙ ap (λ (x : ℕ). (t, x)) (sym p))
+pub chosen_here : (w : Table) (v : ℕ) (value : Bool) (id c : ℕ) → c ≡ select (edges_of w v id) (cond value 0 1) → create_node w v (restricting value (edges_of w v id)) ≡ (w, c)
+chosen_here w v value id c p = create_last w v _ ∙ ap (λ (x : ℕ). (w, x)) (sym p)

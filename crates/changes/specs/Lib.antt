@@ -1,3 +1,3 @@
 -- Restriction, narrowing and widening on a lent table. Assumes nothing.
 pub mod Changed
-pub mod Turning
+pub mod Ways

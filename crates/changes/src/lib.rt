@@ -3,6 +3,7 @@
 
 #![tactic(auto)]
 
+pub mod descent;
 pub mod narrowing;
 pub mod restriction;
 pub mod turns;

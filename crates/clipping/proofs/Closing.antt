@@ -14,8 +14,7 @@ use Rattle.making.specs.declared.edges.Edge.{Edge}
 use Rattle.making.specs.declared.edges.Edges as built
 use Rattle.making.specs.Building.{child_in, cut_in}
 use Rattle.making.proofs.Slots.{stored, stored_size, SlotFor, stored_is_put, slot_new}
-use Rattle.clipping.specs.declared.Clip.{Clip}
-use Rattle.clipping.specs.Clipping.{Clips, Gathered, leading}
+use Rattle.clipping.specs.Clipping.{Clip, Clips, Gathered, leading}
 
 -- of the edges that are wanted only their merge counts
 pub clips_same : {want other : Pieces ℕ} {r : Clip} → merge want ≡ merge other → Clips want r → Clips other r

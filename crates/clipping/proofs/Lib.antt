@@ -1,4 +1,5 @@
 -- The edges of narrowing and widening. Assumes nothing.
+pub mod Variables
 pub mod Zones
 pub mod Passing
 pub mod Copying

@@ -1,5 +1,5 @@
 -- The edges of a view below a position are passed, one by one. Assumes nothing.
-use mathlib.Core.Path.{◌≡◌, refl, sym, ◌∙◌, ap}
+use mathlib.Core.Path.{◌≡◌, sym, ◌∙◌, ap}
 use mathlib.Core.List.{List}
 use mathlib.Core.Logic.{⊎_elim}
 use Prim.Native.Nat.{ℕ, ◌+◌, ◌≤◌, ◌<◌}
@@ -18,9 +18,6 @@ use Rattle.clipping.proofs.Zones.{above_last, above_next, above_here}
 pub record Passing (cuts : List ℤ) (a : View) (lo i : ℕ) : Type 0 where
   pub inside : i < a.count
   pub same : (children : List ℕ) (v : ℕ) → v < first_boolean → above lo (seen children cuts v a 0) ≡ above lo (seen children cuts v a i)
-
-pub pass_none : (cuts : List ℤ) (a : View) (lo : ℕ) → 1 ≤ a.count → Passing cuts a lo 0
-pass_none cuts a lo h = record { inside = omega arith; same = λ children v r. refl }
 
 -- a last edge reaches past each position, so that one which ends at a position or before is no last one
 pub not_last : {count k p : ℕ} (i : ℕ) → p ≤ top → (count ≤ i + 1 → k ≡ beyond) → k ≤ p → i + 1 < count

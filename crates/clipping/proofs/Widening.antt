@@ -1,14 +1,11 @@
 -- Edges of a view put into slots between FALSE and FALSE, as widening does. Assumes nothing.
 use mathlib.Core.Path.{◌≡◌, refl, sym, ◌∙◌, ap, ap₂, subst}
-use mathlib.Core.Bool.{Bool, true, false}
 use mathlib.Core.List.{List}
 use mathlib.Core.Logic.{⊎_elim}
 use Prim.Native.Nat.{ℕ, suc, ◌+◌, ◌-◌, ◌≤◌, ◌<◌, min}
 use native.Mathlib.Omega.{arith}
-use lib.Dec.{ltb}
 use lib.ListN.{length}
 use lib.IntN.{ℤ}
-use borrow.Author.Tests.{ltb-true, ltb-false}
 use Rattle.ids.specs.Id.{FALSE}
 use Rattle.ids.specs.declared.NodeId.{NodeId}
 use Rattle.ranges.specs.Line.{top}
@@ -28,8 +25,7 @@ use Rattle.making.proofs.Slots.{stored, stored_size, stored_child, stored_cut_le
 use Rattle.views.specs.declared.View.{View}
 use Rattle.views.specs.Seeing.{beyond, child_seen, cut_seen, seen}
 use Rattle.views.proofs.Sights.{seen_last, seen_cut, seen_range}
-use Rattle.clipping.specs.declared.Clip.{Clip}
-use Rattle.clipping.specs.Clipping.{Clips, Gathered, Closes}
+use Rattle.clipping.specs.Clipping.{Clip, Clips, Gathered, Closes}
 use Rattle.clipping.proofs.Zones.{closing, fronted, fronted_none, fronted_some, closing_inner, closing_over, closing_before, closing_top, first_closing, widened_zones}
 use Rattle.clipping.proofs.Passing.{not_last}
 use Rattle.clipping.proofs.Closing.{clips_same, merge_leading}
@@ -43,30 +39,29 @@ module _ (children : List ℕ) (cuts : List ℤ) (a : View) (lo hi : ℕ) where
   abbrev whole : Pieces ℕ
   whole = fronted lo (closing hi top (above lo (seen children cuts 0 a 0)))
 
-  -- All edges inside the bounds are put: FALSE is left, or nothing.
-  pub record AllPut (out : built.Edges) (len : ℕ) : Type 0 where
-    pub some : 1 ≤ len
-    pub apart : (i : ℕ) → i + 1 < len → child_in out i ≡ child_in out (i + 1) → ⊥
-    pub shut : hi < top → Glue (child_in out) (cut_in out) len whole (last FALSE)
-    pub full : top ≤ hi → run (child_in out) (cut_in out) 0 (len - 1) ≡ merge whole
-
-  -- What the loop keeps: `len` edges are put, the last of them to the child `final`; while there is more to do, edge i is the next.
-  pub record Widening (out : built.Edges) (len : ℕ) (final : NodeId) (i : ℕ) (more : Bool) : Type 0 where
+  -- What the loop keeps: `len` edges are put, the last of them to the child `final`, and edge i is the next.
+  pub record Widening (out : built.Edges) (len : ℕ) (final : NodeId) (i : ℕ) : Type 0 where
     pub size : length out.list ≡ most_edges
     pub most : len ≤ most_edges
     pub last_is : 0 < len → final.0 ≡ child_in out (len - 1)
-    pub going : more ≡ true → (i < a.count) × Glue (child_in out) (cut_in out) len whole (rest i)
-    pub done : more ≡ false → AllPut out len
+    pub inside : i < a.count
+    pub glue : Glue (child_in out) (cut_in out) len whole (rest i)
+
+  -- All edges inside the bounds are put: FALSE is left, or nothing.
+  pub record AllPut (out : built.Edges) (len : ℕ) (final : NodeId) : Type 0 where
+    pub gathered : Gathered out len final.0
+    pub shut : hi < top → Glue (child_in out) (cut_in out) len whole (last FALSE)
+    pub full : top ≤ hi → run (child_in out) (cut_in out) 0 (len - 1) ≡ merge whole
 
   -- At the start: FALSE below the bounds, if anything is below them.
-  pub widen_none : (out : built.Edges) → length out.list ≡ most_edges → (e : Edge) → e.cut ≡ lo → e.child.0 ≡ FALSE → (len : ℕ) → (lo ≡ 0 → len ≡ 0) × (0 < lo → len ≡ 1)
-      → (final : NodeId) → final.0 ≡ FALSE → (i : ℕ) → i < a.count → above lo (seen children cuts 0 a 0) ≡ seen children cuts 0 a i → Widening (stored out 0 e) len final i true
-  widen_none out size e ec ed len n final f i h z = record {
+  pub widen_none : (out : built.Edges) → length out.list ≡ most_edges → {e : Edge} {f : NodeId} → e ≡ record { cut = lo; child = f; spare = 0 } → f.0 ≡ FALSE → (len : ℕ) → len ≡ min lo 1
+      → (i : ℕ) → i < a.count → above lo (seen children cuts 0 a 0) ≡ seen children cuts 0 a i → Widening (record { list = (stored out 0 e).list; len = len }) len f i
+  widen_none out size {e} {f} new outside len n i h z = record {
     size = stored_size out 0 e size;
-    most = ⊎_elim (λ l. omega (arith, n.1 l)) (λ l. omega (arith, n.0 (omega arith))) (lt_or_le 0 lo);
-    last_is = λ l. f ∙ (sym ed ∙ (sym (stored_child out 0 e size (omega arith)) ∙ ap c (let y : 0 ≡ len - 1 = ⊎_elim (λ l. omega (arith, n.1 l)) (λ l. omega (arith, n.0 (omega arith))) (lt_or_le 0 lo) in y)));
-    going = λ q. (h, ⊎_elim below none (lt_or_le 0 lo));
-    done = λ q. absurd (not_false_and_true q refl);
+    most = omega arith;
+    last_is = λ l. sym (ap (λ (y : Edge). y.child.0) new) ∙ (sym (stored_child out 0 e size (omega arith)) ∙ ap c (let y : 0 ≡ len - 1 = omega arith in y));
+    inside = h;
+    glue = ⊎_elim below none (lt_or_le 0 lo);
   }
     where
       c : ℕ → ℕ
@@ -76,20 +71,16 @@ module _ (children : List ℕ) (cuts : List ℤ) (a : View) (lo hi : ℕ) where
       k = cut_in (stored out 0 e)
 
       none : lo ≤ 0 → Glue c k len whole (rest i)
-      none l = subst (λ (j : ℕ). Glue c k j whole (rest i)) (sym (n.0 (omega arith))) (subst (Glue c k 0 whole) (fronted_none lo _ (omega arith) ∙ ap (closing hi top) z) (glue_none c k whole))
+      none l = let y : 0 ≡ len = omega arith in subst (λ (j : ℕ). Glue c k j whole (rest i)) y (subst (Glue c k 0 whole) (fronted_none lo _ (omega arith) ∙ ap (closing hi top) z) (glue_none c k whole))
 
       below : 0 < lo → Glue c k len whole (rest i)
-      below l = subst (λ (j : ℕ). Glue c k j whole (rest i)) (sym (n.1 l))
+      below l = let y : 1 ≡ len = omega arith in subst (λ (j : ℕ). Glue c k j whole (rest i)) y
           (glue_step c k c k 0 0 FALSE lo whole (rest i) (subst (Glue c k 0 whole) (fronted_some lo _ (λ q. omega arith) ∙ ap (λ (x : Pieces ℕ). cut FALSE lo (closing hi top x)) z) (glue_none c k whole))
-          (record { slot = next (λ p. absurd (omega arith)); keeps = λ j p. absurd (omega arith); child = stored_child out 0 e size (omega arith) ∙ ed }) (stored_cut_lem out 0 e size (omega arith) ∙ ec))
+          (record { slot = next (λ p. absurd (omega arith)); keeps = λ j p. absurd (omega arith); child = stored_child out 0 e size (omega arith) ∙ (ap (λ (y : Edge). y.child.0) new ∙ outside) }) (stored_cut_lem out 0 e size (omega arith) ∙ ap (λ (y : Edge). y.cut) new))
 
-module _ {children : List ℕ} {cuts : List ℤ} {a : View} {lo hi : ℕ} {out : built.Edges} {len : ℕ} {final : NodeId} {i : ℕ} {more : Bool} (x : Widening children cuts a lo hi out len final i more) where
+module _ {children : List ℕ} {cuts : List ℤ} {a : View} {lo hi : ℕ} {out : built.Edges} {len : ℕ} {final : NodeId} {i : ℕ} (x : Widening children cuts a lo hi out len final i) where
   -- one edge more, to the child d
-  module _ (on : more ≡ true) {d : NodeId} (kid : d.0 ≡ child_seen children a i) {s : ℕ} (sf : SlotFor len final.0 d.0 s) where
-    -- what is put and what is left
-    glue : Glue (child_in out) (cut_in out) len (whole children cuts a lo hi) (rest children cuts a lo hi i)
-    glue = (x.going on).1
-
+  module _ {d : NodeId} (kid : d.0 ≡ child_seen children a i) {s : ℕ} (sf : SlotFor len final.0 d.0 s) where
     -- this edge is the first that is left
     first_rest : first (rest children cuts a lo hi i) ≡ d.0
     unfolding seen
@@ -99,60 +90,69 @@ module _ {children : List ℕ} {cuts : List ℤ} {a : View} {lo hi : ℕ} {out :
     pub widen_over : most_edges ≤ s → most_edges < count (merge (whole children cuts a lo hi))
     widen_over h =
         let n = slot_new out x.size len final.0 d.0 s x.last_is sf (omega (arith, x.most)) in
-        omega (arith, n.0, glued_below_count (child_in out) (cut_in out) len (whole children cuts a lo hi) (rest children cuts a lo hi i) glue (λ p q. n.1 p (q ∙ first_rest)))
+        omega (arith, n.0, glued_below_count (child_in out) (cut_in out) len (whole children cuts a lo hi) (rest children cuts a lo hi i) x.glue (λ p q. n.1 p (q ∙ first_rest)))
 
-    module _ (small : hi ≤ top) (fits : s < most_edges) {k : ℕ} (real : i + 1 < a.count → k ≡ cut_seen cuts 0 a i) (end : a.count ≤ i + 1 → k ≡ beyond) (l : ℕ) (cut_is : l ≡ min k (hi + 1)) where
-      abbrev e : Edge
-      e = record { cut = l; child = d; spare = 0 }
+    module _ (small : hi ≤ top) (fits : s < most_edges) {k : ℕ} (real : i + 1 < a.count → k ≡ cut_seen cuts 0 a i) (end : a.count ≤ i + 1 → k ≡ beyond) {e : Edge} (new : e ≡ record { cut = min k (hi + 1); child = d; spare = 0 }) where
+      abbrev more : built.Edges
+      more = record { list = (stored out s e).list; len = s + 1 }
 
       -- it stands in its slot
       put_it : Put (child_in out) (cut_in out) (child_in (stored out s e)) (cut_in (stored out s e)) len s d.0
-      put_it = stored_is_put out x.size len final.0 d.0 s x.last_is sf e refl fits
+      put_it = stored_is_put out x.size len final.0 d.0 s x.last_is sf e (ap (λ (y : Edge). y.child.0) new) fits
 
-      -- it ends within the bounds, so that there is a next one
-      rest_inner : k ≤ hi → rest children cuts a lo hi i ≡ cut d.0 k (rest children cuts a lo hi (i + 1))
-      rest_inner h =
-          let m = not_last i small end h in
-          ap (closing hi top) (seen_cut children cuts 0 a i m)
-          ∙ (closing_inner hi top (child_seen children a i) (cut_seen cuts 0 a i) (seen children cuts 0 a (i + 1)) (omega (arith, real m)) ∙ ap₂ (λ (b j : ℕ). cut b j (rest children cuts a lo hi (i + 1))) (sym kid) (sym (real m)))
-
-      -- it goes on to the upper bound or past it
-      rest_over : hi < k → rest children cuts a lo hi i ≡ closing hi top (last d.0)
-      rest_over h = ⊎_elim
-          (λ m. ap (closing hi top) (seen_cut children cuts 0 a i m) ∙ (closing_over hi top (child_seen children a i) (cut_seen cuts 0 a i) (seen children cuts 0 a (i + 1)) (omega (arith, real m)) ∙ ap (λ (b : ℕ). closing hi top (last b)) (sym kid)))
-          (λ m. ap (closing hi top) (seen_last children cuts 0 a i (omega (arith, (x.going on).0)) ∙ ap last (sym kid)))
-          (lt_or_le (i + 1) a.count)
+      last_put : d.0 ≡ child_in (stored out s e) (s + 1 - 1)
+      last_put = sym (stored_child out s e x.size fits ∙ ap (λ (y : Edge). y.child.0) new) ∙ ap (child_in (stored out s e)) (let y : s ≡ s + 1 - 1 = omega arith in y)
 
       -- and r is left after it
-      step : (j : ℕ) (r : Pieces ℕ) → rest children cuts a lo hi i ≡ cut d.0 j r → l ≡ j → Glue (child_in (stored out s e)) (cut_in (stored out s e)) (s + 1) (whole children cuts a lo hi) r
-      step j r z q = glue_step (child_in out) (cut_in out) (child_in (stored out s e)) (cut_in (stored out s e)) len s d.0 j (whole children cuts a lo hi) r (subst (Glue (child_in out) (cut_in out) len (whole children cuts a lo hi)) z glue) put_it (stored_cut_lem out s e x.size fits ∙ q)
+      step : (j : ℕ) (r : Pieces ℕ) → rest children cuts a lo hi i ≡ cut d.0 j r → min k (hi + 1) ≡ j → Glue (child_in (stored out s e)) (cut_in (stored out s e)) (s + 1) (whole children cuts a lo hi) r
+      step j r z q = glue_step (child_in out) (cut_in out) (child_in (stored out s e)) (cut_in (stored out s e)) len s d.0 j (whole children cuts a lo hi) r (subst (Glue (child_in out) (cut_in out) len (whole children cuts a lo hi)) z x.glue) put_it (stored_cut_lem out s e x.size fits ∙ (ap (λ (y : Edge). y.cut) new ∙ q))
 
-      -- one turn of the loop
-      pub widen_next : (upto : ℕ) → upto ≡ hi + 1 → Widening children cuts a lo hi (stored out s e) (s + 1) d (i + 1) (ltb k upto)
-      widen_next upto u = record {
-        size = stored_size out s e x.size;
-        most = omega arith;
-        last_is = λ p. sym (stored_child out s e x.size fits) ∙ ap (child_in (stored out s e)) (let y : s ≡ s + 1 - 1 = omega arith in y);
-        going = λ q. let h : k ≤ hi = omega (arith, ltb-true k upto q) in (not_last i small end h, step k (rest children cuts a lo hi (i + 1)) (rest_inner h) (omega arith));
-        done = λ q. let h : hi < k = omega (arith, ltb-false k upto q) in record {
-          some = omega arith;
-          apart = λ j p. put_apart (child_in out) (cut_in out) (child_in (stored out s e)) (cut_in (stored out s e)) len s d.0 (whole children cuts a lo hi) (rest children cuts a lo hi i) glue put_it j (omega arith);
-          shut = λ t. step (suc hi) (last FALSE) (rest_over h ∙ closing_before hi top d.0 t) (omega arith);
+      -- It ends within the bounds, so that there is a next one: one turn of the loop.
+      module _ (h : k ≤ hi) where
+        after : i + 1 < a.count
+        after = not_last i small end h
+
+        rest_inner : rest children cuts a lo hi i ≡ cut d.0 k (rest children cuts a lo hi (i + 1))
+        rest_inner = ap (closing hi top) (seen_cut children cuts 0 a i after)
+            ∙ (closing_inner hi top (child_seen children a i) (cut_seen cuts 0 a i) (seen children cuts 0 a (i + 1)) (omega (arith, real after)) ∙ ap₂ (λ (b j : ℕ). cut b j (rest children cuts a lo hi (i + 1))) (sym kid) (sym (real after)))
+
+        pub widen_next : Widening children cuts a lo hi more (s + 1) d (i + 1)
+        widen_next = record {
+          size = stored_size out s e x.size;
+          most = omega arith;
+          last_is = λ p. last_put;
+          inside = after;
+          glue = step k (rest children cuts a lo hi (i + 1)) rest_inner (omega arith);
+        }
+
+      -- It goes on to the upper bound or past it: all are put.
+      module _ (h : hi < k) where
+        rest_over : rest children cuts a lo hi i ≡ closing hi top (last d.0)
+        rest_over = ⊎_elim
+            (λ m. ap (closing hi top) (seen_cut children cuts 0 a i m) ∙ (closing_over hi top (child_seen children a i) (cut_seen cuts 0 a i) (seen children cuts 0 a (i + 1)) (omega (arith, real m)) ∙ ap (λ (b : ℕ). closing hi top (last b)) (sym kid)))
+            (λ m. ap (closing hi top) (seen_last children cuts 0 a i (omega (arith, x.inside)) ∙ ap last (sym kid)))
+            (lt_or_le (i + 1) a.count)
+
+        pub widen_last : AllPut children cuts a lo hi more (s + 1) d
+        widen_last = record {
+          gathered = record {
+            size = stored_size out s e x.size;
+            some = omega arith;
+            most = omega arith;
+            last_is = last_put;
+            apart = λ j p. put_apart (child_in out) (cut_in out) (child_in (stored out s e)) (cut_in (stored out s e)) len s d.0 (whole children cuts a lo hi) (rest children cuts a lo hi i) x.glue put_it j (omega arith);
+          };
+          shut = λ t. step (suc hi) (last FALSE) (rest_over ∙ closing_before hi top d.0 t) (omega arith);
           full = λ t. (let y : s + 1 - 1 ≡ s = omega arith in ap (run (child_in (stored out s e)) (cut_in (stored out s e)) 0) y)
-              ∙ run_is_merge (child_in out) (cut_in out) (child_in (stored out s e)) (cut_in (stored out s e)) len s d.0 (whole children cuts a lo hi) (subst (Glue (child_in out) (cut_in out) len (whole children cuts a lo hi)) (rest_over h ∙ closing_top hi top d.0 t) glue) put_it;
-        };
-      }
+              ∙ run_is_merge (child_in out) (cut_in out) (child_in (stored out s e)) (cut_in (stored out s e)) len s d.0 (whole children cuts a lo hi) (subst (Glue (child_in out) (cut_in out) len (whole children cuts a lo hi)) (rest_over ∙ closing_top hi top d.0 t) x.glue) put_it;
+        }
 
-  -- All are put.
-  module _ (off : more ≡ false) where
-    pub widen_gathered : Gathered out len final.0
-    widen_gathered = record { size = x.size; some = (x.done off).some; most = x.most; last_is = x.last_is (x.done off).some; apart = (x.done off).apart }
-
-    pub widen_closed : (upto : ℕ) → upto ≡ hi + 1 → {r : Clip} → Closes out len upto r → Clips (whole children cuts a lo hi) r
-    widen_closed upto u {r} q = ⊎_elim
-        (λ t. clips_same (merge_leading (child_in out) (cut_in out) len (last FALSE) ∙ ((x.done off).shut t).equal) (q.shut (omega arith)))
-        (λ t. subst (Clips (whole children cuts a lo hi)) (sym (q.whole (omega arith))) (record { built = λ _. (record { size = x.size; some = (x.done off).some; most = x.most }, (x.done off).full t); over = λ w. absurd (not_false_and_true w refl) }))
-        (lt_or_le hi top)
+-- All are put, and closed.
+pub widen_closed : {children : List ℕ} {cuts : List ℤ} {a : View} {lo hi : ℕ} {out : built.Edges} {len : ℕ} {final : NodeId} → AllPut children cuts a lo hi out len final → (upto : ℕ) → upto ≡ hi + 1 → {r : Clip} → Closes out len upto r → Clips (whole children cuts a lo hi) r
+widen_closed {children} {cuts} {a} {lo} {hi} {out} {len} d upto u q = ⊎_elim
+    (λ t. clips_same (merge_leading (child_in out) (cut_in out) len (last FALSE) ∙ (d.shut t).equal) (q.shut (omega arith)))
+    (λ t. subst (Clips (whole children cuts a lo hi)) (sym (q.whole (omega arith))) (record { built = λ _. (record { size = d.gathered.size; some = d.gathered.some; most = d.gathered.most }, d.full t); over = λ w. absurd (not_false_and_true w refl) }))
+    (lt_or_le hi top)
 
 -- What is wanted at a range variable.
 pub widened_wanted : (children : List ℕ) (cuts : List ℤ) (a : View) (lo hi upper : ℕ) → hi ≡ upper → lo ≤ upper → upper ≤ top → {r : Clip} → Clips (whole children cuts a lo hi) r

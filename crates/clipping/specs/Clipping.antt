@@ -1,5 +1,5 @@
 -- The edges of widening as the code makes them. Document 01, step 9. Assumes nothing.
-use Rattle.std.specs.Prelude.{◌≡◌, true, false, ℕ, zero, suc, ◌+◌, ◌-◌, ◌≤◌, ◌<◌, length}
+use Rattle.std.specs.Prelude.{◌≡◌, Bool, true, false, [], Result, Ok, Err, ℕ, zero, suc, ◌+◌, ◌-◌, ◌≤◌, ◌<◌, length}
 use Rattle.ids.specs.Id.{FALSE}
 use Rattle.diagram.specs.Pieces.{Pieces, last, cut}
 use Rattle.diagram.specs.Shape.{count}
@@ -8,7 +8,16 @@ use Rattle.algebra.specs.Overlay.{merge}
 use Rattle.making.specs.declared.edges.Edges as built
 use Rattle.making.specs.Building.{Building, child_in, cut_in, pieces_of}
 use Rattle.views.specs.Seeing.{beyond}
-use Rattle.clipping.specs.declared.Clip.{Clip}
+use Rattle.making.specs.declared.room.NoRoom.{NoRoom}
+
+-- What the code answers: edges, or that there would be a 65th. Beside that no edges are looked at.
+pub record Clip : Type 0 where
+  pub ok : Bool
+  pub edges : built.Edges
+
+abbrev pub clip : Result built.Edges NoRoom → Clip
+clip (Ok es) = record { ok = true; edges = es }
+clip (Err e) = record { ok = false; edges = record { list = []; len = 0 } }
 
 -- Merged edges, at most 64; or that there are more.
 pub record Clips (want : Pieces ℕ) (r : Clip) : Type 0 where

@@ -24,8 +24,8 @@ use Rattle.algebra.specs.Making.{settle, create_node}
 use Rattle.algebra.specs.Conditions.{between, terminal, from_range, comparison}
 use Rattle.table.proofs.Laws.{not_false_and_true}
 use Rattle.making.specs.declared.edges.Edges as built
-use Rattle.making.specs.declared.nodes.Used.{Used}
-use Rattle.making.specs.declared.nodes.Made.{Made}
+use Rattle.table.specs.declared.lent.Used.{Used}
+use Rattle.making.specs.Made.{Made}
 use Rattle.making.specs.Building.{Building, pieces_of}
 use Rattle.making.specs.Outcome.{Creates, Buildable}
 use Rattle.conditions.proofs.Terminals.{reduced_between, terminals_buildable, terminals_settle}

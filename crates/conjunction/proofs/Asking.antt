@@ -25,8 +25,8 @@ use Rattle.table.proofs.Laws.{lt_or_le}
 use Rattle.merging.proofs.Conjoined as joined
 use Rattle.memo.specs.Recalling.{Framed, Ordered, as_given, turned}
 use Rattle.memo.proofs.Recalled.{in_either_order}
-use Rattle.making.specs.declared.nodes.Used.{Used}
-use Rattle.making.specs.declared.nodes.Made.{Made}
+use Rattle.table.specs.declared.lent.Used.{Used}
+use Rattle.making.specs.Made.{Made}
 use Rattle.making.specs.Outcome.{table_of}
 use Rattle.views.specs.declared.View.{View}
 use Rattle.views.specs.Seeing.{Asked, Inside, Sees, Views, seen}

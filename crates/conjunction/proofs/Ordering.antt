@@ -8,8 +8,8 @@ use borrow.Author.Tests.{lt-ltb, le-ltb}
 use Rattle.diagram.specs.Table.{first_boolean, is_range}
 use Rattle.views.specs.declared.View.{View}
 use Rattle.views.specs.Seeing.{seen}
-use Rattle.making.specs.declared.nodes.Used.{Used}
-use Rattle.making.specs.declared.nodes.Made.{Made}
+use Rattle.table.specs.declared.lent.Used.{Used}
+use Rattle.making.specs.Made.{Made}
 use Rattle.making.specs.Outcome.{table_of}
 use Rattle.walks.specs.Walking.{Stepped, both}
 use Rattle.walks.proofs.Composing.{stepped_equal_want}

@@ -1,83 +1,59 @@
 // A fresh table in room full of 77s, and a room that is refused and keeps them.
-use super::lengths::check_front;
-use super::show;
+use super::lengths::{Lengths, front};
+use super::tables::Words;
+use super::told::{Checked, number_of};
 use std::io;
-use table::calls::fresh;
+use table::calls::{check, fresh};
+use table::lent::TableMut;
+use table::refusal::Refusal;
 
-// A fresh table in the first words of each slice.
+const ROOMS: [Lengths; 7] = [
+    [16, 10, 9, 16],
+    [16, 9, 10, 16],
+    [15, 10, 10, 16],
+    [16, 10, 10, 15],
+    [16, 1, 1, 16],
+    [16, 10, 10, 16],
+    [8, 2, 2, 8],
+];
+
+// A fresh table in the first words of each slice, if there are so many. (`front` lends them to be read, this to be written: one function for both
+// would need a trait, and be no plainer.)
 fn fresh_front(
-    nodes: &mut [u32],
-    children: &mut [u32],
-    cuts: &mut [i64],
-    index: &mut [u32],
-    n: usize,
-    c: usize,
-    k: usize,
-    x: usize,
-) -> u32 {
-    if n > nodes.len() || c > children.len() || k > cuts.len() || x > index.len() {
-        return 9;
+    words: &mut Words<16, 10>,
+    [nodes, children, cuts, index]: Lengths,
+) -> Option<Result<(), Refusal>> {
+    let mut table = TableMut {
+        nodes: words.nodes.get_mut(..nodes)?,
+        children: words.children.get_mut(..children)?,
+        cuts: words.cuts.get_mut(..cuts)?,
+        index: words.index.get_mut(..index)?,
+    };
+    Some(fresh(&mut table))
+}
+
+fn show_room(rt: &impl Print, lengths: Lengths) -> io::Result<()> {
+    let [nodes, children, cuts, index] = lengths;
+    print!(rt; "fresh {nodes} {children} {cuts} {index} ")?;
+    let mut words = Words::full_of(77);
+    let Some(told) = fresh_front(&mut words, lengths) else {
+        return println!(rt; "too few words");
+    };
+    print!(rt; "number {} first words ", number_of(told))?;
+    let [node, ..] = words.nodes;
+    let [child, ..] = words.children;
+    let [cut, ..] = words.cuts;
+    let [bucket, ..] = words.index;
+    print!(rt; "{node} {child} {cut} {bucket} ")?;
+    match front(&words.read(), lengths) {
+        Some(table) => println!(rt; "check {}", Checked(check(&table))),
+        None => println!(rt; "too few words"),
     }
-    fresh(
-        &mut nodes[0..n],
-        &mut children[0..c],
-        &mut cuts[0..k],
-        &mut index[0..x],
-    )
-}
-
-// A cut is only ever 77 or 0 here.
-fn show_cut(rt: &impl Print, k: i64) -> io::Result<()> {
-    if k == 77 {
-        show::text(rt, b"77 ")?;
-    } else if k == 0 {
-        show::text(rt, b"0 ")?;
-    } else {
-        show::text(rt, b"changed ")?;
-    }
-    Ok(())
-}
-
-fn show_first_words(
-    rt: &impl Print,
-    nodes: &[u32; 16],
-    children: &[u32; 10],
-    cuts: &[i64; 10],
-    index: &[u32; 16],
-) -> io::Result<()> {
-    show::text(rt, b" first words ")?;
-    show::number(rt, nodes[0])?;
-    show::text(rt, b" ")?;
-    show::number(rt, children[0])?;
-    show::text(rt, b" ")?;
-    show_cut(rt, cuts[0])?;
-    show::number(rt, index[0])
-}
-
-fn show_room(rt: &impl Print, n: usize, c: usize, k: usize, x: usize) -> io::Result<()> {
-    let mut nodes = [77u32; 16];
-    let mut children = [77u32; 10];
-    let mut cuts = [77i64; 10];
-    let mut index = [77u32; 16];
-    let told = fresh_front(&mut nodes, &mut children, &mut cuts, &mut index, n, c, k, x);
-    show::text(rt, b"fresh ")?;
-    show::lengths(rt, n, c, k, x)?;
-    show::text(rt, b" number ")?;
-    show::number(rt, told)?;
-    show_first_words(rt, &nodes, &children, &cuts, &index)?;
-    show::text(rt, b" check")?;
-    show::checked(
-        rt,
-        check_front(&nodes, &children, &cuts, &index, n, c, k, x),
-    )
 }
 
 pub fn show_fresh(rt: &impl Print) -> io::Result<()> {
-    show_room(rt, 16, 10, 9, 16)?;
-    show_room(rt, 16, 9, 10, 16)?;
-    show_room(rt, 15, 10, 10, 16)?;
-    show_room(rt, 16, 10, 10, 15)?;
-    show_room(rt, 16, 1, 1, 16)?;
-    show_room(rt, 16, 10, 10, 16)?;
-    show_room(rt, 8, 2, 2, 8)
+    for lengths in ROOMS {
+        show_room(rt, lengths)?;
+    }
+    Ok(())
 }

@@ -1,181 +1,116 @@
 // The index of one record or two, from docs/LAYOUT.md and whatever the records hold. With the index right again, a changed word is refused by
 // the rule that it breaks, or not at all; the hash would else refuse nearly every one.
-use std::num::wrapping_add_usize;
-use table::words::{cut_position, wide};
-
-// The largest hash.
-const MOST_HASH: usize = 4294967295;
+use ranges::places::LOWEST;
+use std::iter::{Skip, Take, Zip};
+use std::slice::Iter;
 
 // With room for two there are two buckets, and the hashes of the second begin here.
-const SECOND: usize = 2147483648;
+const SECOND: u32 = 2147483648;
 
-// A word, or 0 where there is none.
-fn word_at(words: &[u32], i: usize) -> usize {
-    if i < words.len() {
-        return wide(words[i]);
-    }
-    0
+// A record: its variable, its number of edges, the number of the first of them, a spare.
+pub type Record = [u32; 4];
+
+// What an index is laid from.
+#[derive(Clone, Copy)]
+pub struct Records<'a> {
+    pub nodes: &'a [u32],
+    pub children: &'a [u32],
+    pub cuts: &'a [i64],
 }
 
-// The position of a cut, or 0 where there is none.
-fn position_at(cuts: &[i64], i: usize) -> usize {
-    if i < cuts.len() {
-        return cut_position(cuts[i]);
-    }
-    0
+// One edge mixed into a hash, which is a number modulo 2^32 and so meant to wrap. The position of a cut is its distance from the lowest place.
+fn mixed(hash: u32, child: u32, cut: i64) -> u32 {
+    let position = cut.wrapping_sub(LOWEST).cast_unsigned() & 0xffff_ffff;
+    hash.wrapping_mul(1640531527)
+        .wrapping_add(child.wrapping_mul(805459861))
+        .wrapping_add(position as u32)
 }
 
-// One edge mixed into a hash. No argument is larger than these; the tests keep the sum from wrapping.
-fn mixed(h: usize, child: usize, position: usize) -> usize {
-    if h > MOST_HASH {
-        return 0;
-    }
-    if child > MOST_HASH {
-        return 0;
-    }
-    if position > 8589934592 {
-        return 0;
-    }
-    (h * 1640531527 + child * 805459861 + position) % 4294967296
-}
-
-// The hash of the record at a word.
-fn hash_of(nodes: &[u32], children: &[u32], cuts: &[i64], at: usize) -> usize {
-    let count = word_at(nodes, wrapping_add_usize(at, 1));
-    let first = word_at(nodes, wrapping_add_usize(at, 2));
-    let mut h = word_at(nodes, at);
-    let n = children.len();
-    for j in 0..n {
-        if j < count {
-            let i = wrapping_add_usize(first, j);
-            h = mixed(h, word_at(children, i), position_at(cuts, i));
+impl<'a> Records<'a> {
+    pub fn new(nodes: &'a [u32], children: &'a [u32], cuts: &'a [i64]) -> Self {
+        Records {
+            nodes,
+            children,
+            cuts,
         }
     }
-    h
-}
 
-// Whether the edges from 0 on come before those from b on, or are the same.
-fn edges_lead(children: &[u32], cuts: &[i64], b: usize) -> bool {
-    let n = children.len();
-    for j in 0..n {
-        let i = wrapping_add_usize(b, j);
-        let x = word_at(children, j);
-        let y = word_at(children, i);
-        if x != y {
-            return x < y;
+    // The child and the cut of each edge of a record, as far as there are so many.
+    fn edges(self, record: &Record) -> Take<Skip<Zip<Iter<'a, u32>, Iter<'a, i64>>>> {
+        let [_, count, first, _] = *record;
+        self.children
+            .iter()
+            .zip(self.cuts.iter())
+            .skip(first as usize)
+            .take(count as usize)
+    }
+
+    fn hash(self, record: &Record) -> u32 {
+        let mut hash = record[0];
+        for (child, cut) in self.edges(record) {
+            hash = mixed(hash, *child, *cut);
         }
-        let p = position_at(cuts, j);
-        let q = position_at(cuts, i);
-        if p != q {
-            return p < q;
+        hash
+    }
+
+    // Whether the first of two records comes before the second, or is the same: by hash, variable and number of edges, then by child and cut of
+    // each edge.
+    fn leads(self, first: &Record, second: &Record) -> bool {
+        let a = (self.hash(first), first[0], first[1]);
+        let b = (self.hash(second), second[0], second[1]);
+        if a != b {
+            return a < b;
+        }
+        self.edges(first).le(self.edges(second))
+    }
+
+    // The index of a table with room for one record or two, all used. Any other keeps its index.
+    pub fn lay(self, index: &mut [u32]) {
+        let (records, _) = self.nodes.as_chunks::<4>();
+        match (records, index.len()) {
+            ([only], 4) => index.copy_from_slice(&index_of_one(self.hash(only))),
+            ([first, second], 8) => {
+                let leads = self.leads(first, second);
+                index.copy_from_slice(&self.index_in_order(first, second, leads));
+            }
+            _ => {}
         }
     }
-    true
-}
 
-// Whether the first of two records comes before the second, or is the same.
-fn leads(nodes: &[u32], children: &[u32], cuts: &[i64], h: usize, other: usize) -> bool {
-    if h != other {
-        return h < other;
+    // The index of two records, in an order that may be wrong.
+    pub fn index_in_order(self, first: &Record, second: &Record, leads: bool) -> [u32; 8] {
+        index_of_two(self.hash(first), self.hash(second), leads)
     }
-    let v = word_at(nodes, 0);
-    let w = word_at(nodes, 4);
-    if v != w {
-        return v < w;
-    }
-    let count = word_at(nodes, 1);
-    let more = word_at(nodes, 5);
-    if count != more {
-        return count < more;
-    }
-    edges_lead(children, cuts, word_at(nodes, 6))
-}
-
-// Writes one word, if it is there.
-fn set(index: &mut [u32], i: usize, w: u32) {
-    if i < index.len() {
-        index[i] = w;
-    }
-}
-
-// A hash as a word.
-fn narrow(h: usize) -> u32 {
-    if h > MOST_HASH {
-        return 0;
-    }
-    h as u32
-}
-
-// The bucket of a hash, of two.
-fn bucket_of(h: usize) -> usize {
-    if h < SECOND {
-        return 0;
-    }
-    1
 }
 
 // One record: it is the first of the one bucket, and nothing is beside it.
-fn lay_one(index: &mut [u32], h: usize) {
-    set(index, 0, 1);
-    set(index, 1, 0);
-    set(index, 2, 0);
-    set(index, 3, narrow(h));
+fn index_of_one(hash: u32) -> [u32; 4] {
+    [1, 0, 0, hash]
 }
 
-// The links of two records in one bucket b: a next, and the node before it.
-fn link(index: &mut [u32], b: usize, leads: bool) {
-    if leads {
-        set(index, b, 1);
-        set(index, 2, 2);
-        set(index, 5, 1);
-    } else {
-        set(index, b, 2);
-        set(index, 3, 1);
-        set(index, 4, 2);
+// Two records, the first of them before the second or behind it: the first node of each bucket, then for each node the next, the one before it,
+// and its hash. Nodes are named by one more than their number.
+fn index_of_two(hash: u32, other: u32, leads: bool) -> [u32; 8] {
+    let low = hash < SECOND;
+    if low == (other < SECOND) {
+        // One bucket has both.
+        let (first, [next, other_next], [before, other_before]) = if leads {
+            (1, [2, 0], [0, 1])
+        } else {
+            (2, [0, 1], [2, 0])
+        };
+        let [bucket, other_bucket] = if low { [first, 0] } else { [0, first] };
+        return [
+            bucket,
+            other_bucket,
+            next,
+            other_next,
+            before,
+            other_before,
+            hash,
+            other,
+        ];
     }
-}
-
-// No first node, no next and none before, of two records; and their hashes.
-fn unlink(index: &mut [u32], h: usize, other: usize) {
-    set(index, 0, 0);
-    set(index, 1, 0);
-    set(index, 2, 0);
-    set(index, 3, 0);
-    set(index, 4, 0);
-    set(index, 5, 0);
-    set(index, 6, narrow(h));
-    set(index, 7, narrow(other));
-}
-
-// Two records, the first of them before the second or behind it.
-fn lay_two(index: &mut [u32], h: usize, other: usize, leads: bool) {
-    unlink(index, h, other);
-    let b = bucket_of(h);
-    let c = bucket_of(other);
-    if b == c {
-        link(index, b, leads);
-    } else {
-        set(index, b, 1);
-        set(index, c, 2);
-    }
-}
-
-// Two records, in an order that may be wrong.
-pub fn lay_in_order(nodes: &[u32], children: &[u32], cuts: &[i64], index: &mut [u32], leads: bool) {
-    let h = hash_of(nodes, children, cuts, 0);
-    let other = hash_of(nodes, children, cuts, 4);
-    lay_two(index, h, other, leads);
-}
-
-// The index of a table with room for one record or two, all used. Any other keeps its index.
-pub fn lay(nodes: &[u32], children: &[u32], cuts: &[i64], index: &mut [u32]) {
-    let h = hash_of(nodes, children, cuts, 0);
-    if index.len() == 4 {
-        lay_one(index, h);
-        return;
-    }
-    if index.len() == 8 {
-        let other = hash_of(nodes, children, cuts, 4);
-        lay_two(index, h, other, leads(nodes, children, cuts, h, other));
-    }
+    let [bucket, other_bucket] = if low { [1, 2] } else { [2, 1] };
+    [bucket, other_bucket, 0, 0, 0, 0, hash, other]
 }

@@ -9,8 +9,8 @@ mod fresh;
 mod laid;
 mod lengths;
 mod readings;
-mod show;
-mod sound;
+mod tables;
+mod told;
 mod words;
 
 fn main(rt: HostRuntime) -> io::Result<()> {

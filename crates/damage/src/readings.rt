@@ -1,156 +1,95 @@
 // What readings of the sound table tell, and when a reading is refused.
-use super::show;
-use super::sound::{CHILDREN, CUTS, INDEX, NODES};
+use super::tables::SOUND;
+use super::told::{number_of, yes_or_no};
 use ids::NodeId;
+use ranges::places::{HIGHEST, LOWEST};
 use std::io;
 use table::calls::evaluate;
-use table::told::Told;
-
-const HIGHEST: i64 = 4294967295;
-
-const LOWEST: i64 = -4294967297;
+use table::lent::Table;
 
 // Boolean 40 on and all others off, and the other way round.
-const ON: u32 = 256;
+const ON: u32 = 1 << 8;
 
-const OFF: u32 = 4294967039;
+const OFF: u32 = !ON;
 
-// A reading of a table that has these node records, and else the words of the sound one.
-fn read(nodes: &[u32; 16], places: &[i64], bools: u32, id: u32) -> Told {
-    let children = CHILDREN;
-    let cuts = CUTS;
-    let index = INDEX;
-    evaluate(nodes, &children, &cuts, &index, places, bools, NodeId(id))
-}
-
-// The same with the first so many places.
-fn read_front(nodes: &[u32; 16], places: &[i64], length: usize, id: u32) -> Told {
-    if length > places.len() {
-        return Told {
-            number: 9,
-            yes: false,
-        };
-    }
-    read(nodes, &places[0..length], 0, id)
-}
-
-// All places are 0 but that of variable 31.
-fn show_refusal(
-    rt: &impl Print,
-    name: &[u8],
-    nodes: &[u32; 16],
-    length: usize,
-    place: i64,
-    id: u32,
-) -> io::Result<()> {
-    let mut places = [0i64; 33];
-    places[31] = place;
-    let told = read_front(nodes, &places, length, id);
-    show::text(rt, name)?;
-    show::text(rt, b": ")?;
-    show::number(rt, told.number)?;
-    show::answer(rt, told.yes)?;
-    show::text(rt, b"\n")
-}
-
-fn show_single_refusals(rt: &impl Print) -> io::Result<()> {
-    let sound = NODES;
-    show_refusal(rt, b"places 31", &sound, 31, 0, 4)?;
-    show_refusal(rt, b"places 32", &sound, 32, 0, 4)?;
-    show_refusal(rt, b"places 33", &sound, 33, 0, 4)?;
-    show_refusal(rt, b"places 0", &sound, 0, 0, 4)?;
-    show_refusal(rt, b"id 7", &sound, 32, 0, 7)?;
-    show_refusal(rt, b"id 8", &sound, 32, 0, 8)?;
-    show_refusal(rt, b"id 9", &sound, 32, 0, 9)?;
-    show_refusal(rt, b"id 4294967295", &sound, 32, 0, 4294967295)?;
-    show_refusal(rt, b"place 4294967295", &sound, 32, HIGHEST, 4)?;
-    show_refusal(rt, b"place 4294967296", &sound, 32, 4294967296, 4)?;
-    show_refusal(rt, b"place -4294967297", &sound, 32, LOWEST, 4)?;
-    show_refusal(rt, b"place -4294967298", &sound, 32, -4294967298, 4)?;
-    show_refusal(rt, b"highest i64", &sound, 32, 9223372036854775807, 4)?;
-    show_refusal(rt, b"lowest i64", &sound, 32, -9223372036854775808, 4)
-}
-
-// More than one reason to refuse: the lowest number is told. The damage is a spare word that is set.
-fn show_ordered_refusals(rt: &impl Print) -> io::Result<()> {
-    let sound = NODES;
-    let mut damaged = NODES;
-    damaged[3] = 1;
-    show_refusal(rt, b"terminal, bad place", &sound, 32, 4294967296, 0)?;
-    show_refusal(rt, b"damaged", &damaged, 32, 0, 4)?;
-    show_refusal(rt, b"damaged, 31 places", &damaged, 31, 0, 4)?;
-    show_refusal(rt, b"damaged, id 8", &damaged, 32, 0, 8)?;
-    show_refusal(rt, b"damaged, bad place", &damaged, 32, 4294967296, 4)?;
-    show_refusal(rt, b"id 8, bad place", &sound, 32, 4294967296, 8)?;
-    show_refusal(
-        rt,
-        b"damaged, 33 places, id 8, bad place",
-        &damaged,
+// A reading's name; the spare word of the table's first record, which damages it if it is set; how many places are lent, and that of variable 31
+// (all others are 0); and the id.
+const READINGS: [(&str, u32, usize, i64, NodeId); 21] = [
+    ("places 31", 0, 31, 0, NodeId(4)),
+    ("places 32", 0, 32, 0, NodeId(4)),
+    ("places 33", 0, 33, 0, NodeId(4)),
+    ("places 0", 0, 0, 0, NodeId(4)),
+    ("id 7", 0, 32, 0, NodeId(7)),
+    ("id 8", 0, 32, 0, NodeId(8)),
+    ("id 9", 0, 32, 0, NodeId(9)),
+    ("id 4294967295", 0, 32, 0, NodeId(4294967295)),
+    ("place 4294967295", 0, 32, HIGHEST, NodeId(4)),
+    ("place 4294967296", 0, 32, HIGHEST + 1, NodeId(4)),
+    ("place -4294967297", 0, 32, LOWEST, NodeId(4)),
+    ("place -4294967298", 0, 32, LOWEST - 1, NodeId(4)),
+    ("highest i64", 0, 32, i64::MAX, NodeId(4)),
+    ("lowest i64", 0, 32, i64::MIN, NodeId(4)),
+    // More than one reason to refuse: the lowest number is told.
+    ("terminal, bad place", 0, 32, HIGHEST + 1, NodeId::TRUE),
+    ("damaged", 1, 32, 0, NodeId(4)),
+    ("damaged, 31 places", 1, 31, 0, NodeId(4)),
+    ("damaged, id 8", 1, 32, 0, NodeId(8)),
+    ("damaged, bad place", 1, 32, HIGHEST + 1, NodeId(4)),
+    ("id 8, bad place", 0, 32, HIGHEST + 1, NodeId(8)),
+    (
+        "damaged, 33 places, id 8, bad place",
+        1,
         33,
-        4294967296,
-        8,
-    )
-}
+        HIGHEST + 1,
+        NodeId(8),
+    ),
+];
 
 pub fn show_refusals(rt: &impl Print) -> io::Result<()> {
-    show_single_refusals(rt)?;
-    show_ordered_refusals(rt)
-}
-
-fn show_said(rt: &impl Print, told: Told) -> io::Result<()> {
-    if told.number != 0 {
-        show::text(rt, b" refused")?;
-        return Ok(());
+    for (name, spare, length, place, id) in READINGS {
+        let mut words = SOUND;
+        words.nodes[3] = spare;
+        let mut places = [0; 33];
+        places[31] = place;
+        match places.get(..length) {
+            Some(places) => {
+                let told = evaluate(&words.read(), places, 0, id);
+                println!(rt;
+                    "{name}: {} {}",
+                    number_of(told),
+                    yes_or_no(told == Ok(true))
+                )?
+            }
+            None => println!(rt; "{name}: too few places")?,
+        }
     }
-    show::answer(rt, told.yes)
+    Ok(())
 }
 
 // The ids of the terminals and of the three nodes, under one reading.
-fn show_ids(rt: &impl Print, places: &[i64], bools: u32) -> io::Result<()> {
-    let nodes = NODES;
-    for id in 0..8u32 {
-        show_said(rt, read(&nodes, places, bools, id))?;
+fn show_ids(rt: &impl Print, table: &Table, places: &[i64; 32], bools: u32) -> io::Result<()> {
+    for id in 0..8 {
+        match evaluate(table, places, bools, NodeId(id)) {
+            Ok(yes) => print!(rt; " {}", yes_or_no(yes))?,
+            Err(_) => print!(rt; " refused")?,
+        }
     }
-    show::text(rt, b"\n")
+    println!(rt)
 }
 
-// Each place with its name.
-fn show_reading(
-    rt: &impl Print,
-    name1: &[u8],
-    first: i64,
-    name3: &[u8],
-    third: i64,
-) -> io::Result<()> {
-    let mut places = [0i64; 32];
-    places[1] = first;
-    places[3] = third;
-    show::text(rt, b"read")?;
-    show::text(rt, name1)?;
-    show::text(rt, name3)?;
-    show::text(rt, b" on:")?;
-    show_ids(rt, &places, ON)?;
-    show::text(rt, b"read")?;
-    show::text(rt, name1)?;
-    show::text(rt, name3)?;
-    show::text(rt, b" off:")?;
-    show_ids(rt, &places, OFF)
-}
-
-// Variable 3 at both ends and about its cuts.
-fn show_thirds(rt: &impl Print, name1: &[u8], first: i64) -> io::Result<()> {
-    show_reading(rt, name1, first, b" -4294967297", LOWEST)?;
-    show_reading(rt, name1, first, b" -6", -6)?;
-    show_reading(rt, name1, first, b" -5", -5)?;
-    show_reading(rt, name1, first, b" 9", 9)?;
-    show_reading(rt, name1, first, b" 10", 10)?;
-    show_reading(rt, name1, first, b" 4294967295", HIGHEST)
-}
-
-// Variable 1 likewise.
+// Variables 1 and 3 at both ends and about their cuts.
 pub fn show_readings(rt: &impl Print) -> io::Result<()> {
-    show_thirds(rt, b" -4294967297", LOWEST)?;
-    show_thirds(rt, b" 4", 4)?;
-    show_thirds(rt, b" 5", 5)?;
-    show_thirds(rt, b" 4294967295", HIGHEST)
+    let sound = SOUND;
+    for first in [LOWEST, 4, 5, HIGHEST] {
+        for third in [LOWEST, -6, -5, 9, 10, HIGHEST] {
+            let mut places = [0; 32];
+            places[1] = first;
+            places[3] = third;
+            print!(rt; "read {first} {third} on:")?;
+            show_ids(rt, &sound.read(), &places, ON)?;
+            print!(rt; "read {first} {third} off:")?;
+            show_ids(rt, &sound.read(), &places, OFF)?;
+        }
+    }
+    Ok(())
 }

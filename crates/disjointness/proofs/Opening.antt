@@ -1,14 +1,15 @@
 -- The opening tests, and the way down from two ids that they leave. Assumes nothing.
-use mathlib.Core.Path.{◌≡◌, refl, sym, ◌∙◌, ap, ap₂}
-use mathlib.Core.Bool.{Bool, true, false, ◌&&◌, ◌||◌, true≢false, false≢true}
+use mathlib.Core.Path.{◌≡◌, refl, sym, ◌∙◌, ap, ap₂, subst}
+use mathlib.Core.Bool.{Bool, true, false, ◌&&◌, ◌||◌, true≢false}
 use mathlib.Core.List.{List}
-use mathlib.Core.Logic.{◌⊎◌, inl, inr}
+use Rattle.std.proofs.Common.{Option, Some, None, MatchOption, IfSome, is_some}
 use Prim.Native.Nat.{ℕ, zero, suc, ◌*◌, ◌-◌, ◌≤◌, ◌<◌, min}
 use native.Mathlib.Omega.{arith}
 use borrow.Author.Tests.{lt-ltb, le-ltb, eqb-false}
 use lib.Dec.{eqb}
 use lib.ListN.{length}
 use Rattle.ids.specs.Id.{ref, sign, flip}
+use Rattle.ids.specs.declared.NodeId.{NodeId}
 use Rattle.diagram.specs.Table.{variables, first_boolean, top_of, flipped, Table, at, value}
 use Rattle.diagram.specs.Cofactor.{edges_of}
 use Rattle.diagram.specs.Sound.{Child}
@@ -23,7 +24,7 @@ use Rattle.memo.proofs.Recalled.{hit_was_noted, in_either_order, noted_true}
 use Rattle.views.specs.Seeing.{used_in, Readable, seen, Sees, Views}
 use Rattle.views.specs.declared.View.{View}
 use Rattle.views.proofs.Sights.{seen_range, seen_bool, views_rising, views_kids, views_inside, bool_count_le_two, known_held, known_used, record_inside, first_variable_is, sees_views, call_left}
-use Rattle.disjointness.specs.Asking.{whole, apart, Opposed, Agreeing, Excluding, AskedIn, Listed, AskedPair, AskedSides}
+use Rattle.disjointness.specs.Asking.{whole, apart, Opposed, Agreeing, Excluding, AskedIn, Listed, AskedPair, AskedSides, Answers}
 use Rattle.table.specs.Layout.{var_at, Store}
 
 module _ (t : Table) (x y : ℕ) where
@@ -55,15 +56,13 @@ no_terminal_right x y o g =
     let j = neither_true (eqb y 0) (eqb x y) (neither_true (eqb x 0) (eqb y 0 || eqb x y) g).1 in
     omega (arith, eqb-false y 1 i.0, eqb-false y 0 j.0)
 
--- a no without a rest is no answer
-pub gave_up : {A : Type 0} {k : ℕ} → k ≡ 0 → (◌≡◌ {A = Bool} false true) ⊎ (1 ≤ k) → A
-gave_up e (inl h) = absurd (false≢true h)
-gave_up e (inr h) = absurd (omega arith)
-
--- and beside a rest any is one
-pub sure_no : {b : Bool} {k : ℕ} → (◌≡◌ {A = Bool} false true) ⊎ (1 ≤ k) → (b ≡ true) ⊎ (1 ≤ k)
-sure_no (inl h) = absurd (false≢true h)
-sure_no (inr h) = inr h
+-- an answer to what comes to the same, and with a rest that is the same where there is a set of words
+pub answers_as : {st : Store} {noted : List ℕ} {rest rest₀ rest' : ℕ} {want want₀ : Bool} {r : Option Bool} → (8 ≤ length noted → rest ≡ rest₀) → want ≡ want₀ → Answers st noted rest rest' want r → Answers st noted rest₀ rest' want₀ r
+answers_as {rest' = rest'} {r = r} h e a = record {
+  right = subst (λ (w : Bool). MatchOption r (rest' ≡ 0) (λ yes. yes ≡ w)) e a.right;
+  listed = a.listed;
+  stays = λ l. a.stays l ∙ h l;
+}
 
 -- who excludes whom matters not
 excluding_turned : (t : Table) (x y z : ℕ) → Excluding t x y z → Excluding t y x z
@@ -130,8 +129,9 @@ module _ {st : Store} {noted : List ℕ} {n x y : ℕ} (q : AskedPair st noted n
     ids_small = in_either_order (λ z. z < ids) w (omega (arith, r.small, q.left.known)) (omega (arith, r.small, q.right.known))
 
     -- a pair that was noted
-    pub recalled_yes : {z : ℕ} → 2 ≤ x → 2 ≤ y → Hit noted f g z → true ≡ disjoint n t x y
-    recalled_yes {z} hx hy h = excluding_yes z answer (excluding_given t x y f g z w (hit_was_noted q.listed.pairs (omega (arith, (in_either_order (λ z. 2 ≤ z) w hx hy).0)) h))
+    pub recalled_yes : (o : Option NodeId) → 2 ≤ x → 2 ≤ y → IfSome o (λ id. Hit noted f g id.0) → is_some o ≡ true → true ≡ disjoint n t x y
+    recalled_yes None hx hy h s = absurd (true≢false (sym s))
+    recalled_yes (Some id) hx hy h s = excluding_yes id.0 answer (excluding_given t x y f g id.0 w (hit_was_noted q.listed.pairs (omega (arith, (in_either_order (λ z. 2 ≤ z) w hx hy).0)) h))
 
     -- a pair that is noted now
     pub noted_listed : {noted' noted'' : List ℕ} {z : ℕ} {yes : Bool} → Listed st noted' → yes ≡ true → yes ≡ disjoint n t x y → Noted noted' f g z noted'' → Listed st noted''
@@ -141,12 +141,12 @@ module _ {st : Store} {noted : List ℕ} {n x y : ℕ} (q : AskedPair st noted n
       pairs = noted_true l.pairs (excluding_ordered t x y f g z w (answer_yes answer (sym e ∙ h))) o;
     }
 
-  module _ {p g : Bool} (d : p ≡ Opposed x y) (o : p ≡ false) (e : g ≡ Agreeing x y) (h : g ≡ false) where
+  module _ (o : Opposed x y ≡ false) (h : Agreeing x y ≡ false) where
     pub left_node : 2 ≤ x
-    left_node = no_terminal_left x y (sym d ∙ o) (sym e ∙ h)
+    left_node = no_terminal_left x y o h
 
     pub right_node : 2 ≤ y
-    right_node = no_terminal_right x y (sym d ∙ o) (sym e ∙ h)
+    right_node = no_terminal_right x y o h
 
     module _ {v : ℕ} {a b : View} (first : v ≡ min (var_at st.nodes (ref x - 1)) (var_at st.nodes (ref y - 1))) (sa : Sees st.nodes v x a) (sb : Sees st.nodes v y b) where
       ev : v ≡ min (at t (ref x)).var (at t (ref y)).var
@@ -184,8 +184,8 @@ module _ {st : Store} {noted : List ℕ} {n x y : ℕ} (q : AskedPair st noted n
       }
 
       -- whose answer is that of the ids
-      pub sides_answer : {z : Bool} → z ≡ apart (n - 1) t (seen st.children st.cuts v a 0) (seen st.children st.cuts v b 0) → z ≡ disjoint n t x y
-      sides_answer i = i ∙ sym (disjoint_apart t x y n some_ahead (sym d ∙ o) (sym e ∙ h) v ev ∙ ap₂ (apart (n - 1) t) (sym va.edges) (sym vb.edges))
+      pub sides_answer : apart (n - 1) t (seen st.children st.cuts v a 0) (seen st.children st.cuts v b 0) ≡ disjoint n t x y
+      sides_answer = sym (disjoint_apart t x y n some_ahead o h v ev ∙ ap₂ (apart (n - 1) t) (sym va.edges) (sym vb.edges))
 
 -- two views at a variable that stands for its kind
 module _ {st : Store} {noted : List ℕ} {v n : ℕ} {a b : View} (s : AskedSides st noted v n a b) where
@@ -202,17 +202,17 @@ module _ {st : Store} {noted : List ℕ} {v n : ℕ} {a b : View} (s : AskedSide
       two_edges = λ h. s.two_edges (kind h);
     }
 
-    kind_answer : {z : Bool} → z ≡ apart n (whole st) (seen st.children st.cuts k a 0) (seen st.children st.cuts k b 0) → z ≡ apart n (whole st) (seen st.children st.cuts v a 0) (seen st.children st.cuts v b 0)
-    kind_answer i = i ∙ sym (ap₂ (apart n (whole st)) (same a) (same b))
+    kind_answer : apart n (whole st) (seen st.children st.cuts k a 0) (seen st.children st.cuts k b 0) ≡ apart n (whole st) (seen st.children st.cuts v a 0) (seen st.children st.cuts v b 0)
+    kind_answer = sym (ap₂ (apart n (whole st)) (same a) (same b))
 
   pub range_sides : v < first_boolean → AskedSides st noted 0 n a b
   range_sides h = at_kind 0 (rw (lt-ltb v 32 h)) (λ w. seen_range st.children st.cuts v w 0 h) (λ k. absurd (omega arith))
 
-  pub range_answer : v < first_boolean → {z : Bool} → z ≡ apart n (whole st) (seen st.children st.cuts 0 a 0) (seen st.children st.cuts 0 b 0) → z ≡ apart n (whole st) (seen st.children st.cuts v a 0) (seen st.children st.cuts v b 0)
-  range_answer h i = kind_answer 0 (rw (lt-ltb v 32 h)) (λ w. seen_range st.children st.cuts v w 0 h) (λ k. absurd (omega arith)) i
+  pub range_answer : v < first_boolean → apart n (whole st) (seen st.children st.cuts 0 a 0) (seen st.children st.cuts 0 b 0) ≡ apart n (whole st) (seen st.children st.cuts v a 0) (seen st.children st.cuts v b 0)
+  range_answer h = kind_answer 0 (rw (lt-ltb v 32 h)) (λ w. seen_range st.children st.cuts v w 0 h) (λ k. absurd (omega arith))
 
   pub bool_sides : first_boolean ≤ v → AskedSides st noted first_boolean n a b
   bool_sides h = at_kind first_boolean (rw (le-ltb v 32 h)) (λ w. seen_bool st.children st.cuts v w 0 h) (λ k. h)
 
-  pub bool_answer : first_boolean ≤ v → {z : Bool} → z ≡ apart n (whole st) (seen st.children st.cuts first_boolean a 0) (seen st.children st.cuts first_boolean b 0) → z ≡ apart n (whole st) (seen st.children st.cuts v a 0) (seen st.children st.cuts v b 0)
-  bool_answer h i = kind_answer first_boolean (rw (le-ltb v 32 h)) (λ w. seen_bool st.children st.cuts v w 0 h) (λ k. h) i
+  pub bool_answer : first_boolean ≤ v → apart n (whole st) (seen st.children st.cuts first_boolean a 0) (seen st.children st.cuts first_boolean b 0) ≡ apart n (whole st) (seen st.children st.cuts v a 0) (seen st.children st.cuts v b 0)
+  bool_answer h = kind_answer first_boolean (rw (le-ltb v 32 h)) (λ w. seen_bool st.children st.cuts v w 0 h) (λ k. h)

@@ -38,8 +38,8 @@ module _ {st : Store} {noted : List ℕ} {n : ℕ} {a b : View} (s : AskedSides 
         sym (apart_not n t A B (ap₂ (λ (c d : ℕ). disjoint n t c d) p r ∙ (sym high ∙ h)))
 
     -- yes of the high children leaves it to the low ones
-    pub high_yes : {w z : ℕ} {r : Bool} → q ≡ true → w ≡ child_seen st.children a (a.count - 1) → z ≡ child_seen st.children b (b.count - 1) → r ≡ disjoint n t w z → r ≡ apart n t A B
-    high_yes {w} {z} {r} h ew ez er = er ∙ (ap₂ (λ (c d : ℕ). disjoint n t c d) ew ez ∙ sym (⊎_elim (λ o. ⊎_elim (one_one o) (one_two o) (two_at_most b s.right.some (s.two_edges (omega arith)).1)) (λ o. ⊎_elim (two_one o) (two_two o) (two_at_most b s.right.some (s.two_edges (omega arith)).1)) (two_at_most a s.left.some (s.two_edges (omega arith)).0)))
+    pub high_yes : {w z : ℕ} → q ≡ true → w ≡ child_seen st.children a (a.count - 1) → z ≡ child_seen st.children b (b.count - 1) → disjoint n t w z ≡ apart n t A B
+    high_yes {w} {z} h ew ez = ap₂ (λ (c d : ℕ). disjoint n t c d) ew ez ∙ sym (⊎_elim (λ o. ⊎_elim (one_one o) (one_two o) (two_at_most b s.right.some (s.two_edges (omega arith)).1)) (λ o. ⊎_elim (two_one o) (two_two o) (two_at_most b s.right.some (s.two_edges (omega arith)).1)) (two_at_most a s.left.some (s.two_edges (omega arith)).0))
       where
         two_at_most : (v : View) → 1 ≤ v.count → v.count ≤ 2 → (v.count ≡ 1) ⊎ (v.count ≡ 2)
         two_at_most v l m = ⊎_elim (λ o. inl (omega arith)) (λ o. inr (omega arith)) (lt_or_le v.count 2)

@@ -3,6 +3,7 @@ use mathlib.Core.Path.{◌≡◌, refl, sym, ◌∙◌, ap, ap₂, subst}
 use mathlib.Core.Bool.{Bool, true, false}
 use mathlib.Core.Logic.{⊎_elim}
 use mathlib.Core.List.{List}
+use Rattle.std.proofs.Common.{Option}
 use Prim.Native.Nat.{ℕ, ◌+◌, ◌≤◌, ◌<◌}
 use native.Mathlib.Omega.{arith}
 use lib.ListN.{length}
@@ -14,7 +15,7 @@ use Rattle.table.proofs.Laws.{lt_or_le}
 use Rattle.views.specs.Seeing.{Readable, beyond, child_seen, cut_seen, seen, Inside}
 use Rattle.views.specs.declared.View.{View}
 use Rattle.views.proofs.Sights.{seen_last, seen_cut, seen_each, rising_cut, inside_wider, first_seen}
-use Rattle.disjointness.specs.Asking.{whole, apart, Listed, AskedIn, AskedPair, AskedSides}
+use Rattle.disjointness.specs.Asking.{whole, apart, Listed, AskedIn, AskedPair, AskedSides, Answers}
 use Rattle.disjointness.proofs.Overlaps.{apart_not, apart_left, apart_left_last, apart_right, apart_right_last, apart_both, apart_one}
 use Rattle.table.specs.Layout.{Store}
 
@@ -60,8 +61,14 @@ pub record Beside (st : Store) (noted₀ noted : List ℕ) (rest more : ℕ) (He
   pub long : length noted ≡ length noted₀
   pub stays : 8 ≤ length noted → more ≡ rest
 
-pub beside_at : {st : Store} {noted z : List ℕ} {rest more w : ℕ} {Here : Type 0} (noted₀ : List ℕ) → z ≡ noted → w ≡ more → Listed st noted → length noted ≡ length noted₀ → (8 ≤ length noted → more ≡ rest) → Here → Beside st noted₀ z rest w Here
-beside_at {st} {noted} {z} noted₀ e f l h g i = record { here = i; listed = subst (Listed st) (sym e) l; long = ap length e ∙ h; stays = λ k. f ∙ g (subst (λ (m : List ℕ). 8 ≤ length m) e k) }
+-- and where it is after the next walk
+pub beside_next : {st : Store} {noted₀ noted noted' z : List ℕ} {rest more more' w : ℕ} {want : Bool} {r : Option Bool} {Here Here' : Type 0} → Beside st noted₀ noted rest more Here → length noted' ≡ length noted → Answers st noted' more more' want r → z ≡ noted' → w ≡ more' → Here' → Beside st noted₀ z rest w Here'
+beside_next {st} b e a f g h = record {
+  here = h;
+  listed = subst (Listed st) (sym f) a.listed;
+  long = ap length f ∙ (e ∙ b.long);
+  stays = λ k. g ∙ (a.stays (subst (λ (m : List ℕ). 8 ≤ length m) f k) ∙ b.stays (omega (arith, e, ap length f)));
+}
 
 module _ {st : Store} {noted : List ℕ} {n : ℕ} {a b : View} (s : AskedSides st noted 0 n a b) where
   abbrev t : Table

@@ -1,11 +1,12 @@
 -- The whole operation: a memo of zeros may be handed down, and of a sound table the answer is that of the table it holds. Assumes nothing.
 use mathlib.Core.Path.{◌≡◌, sym, ◌∙◌, ap, subst}
-use mathlib.Core.Bool.{Bool}
+use mathlib.Core.Bool.{Bool, true, false, false≢true}
 use mathlib.Core.List.{List}
-use mathlib.Core.Logic.{inr}
+use mathlib.Core.Logic.{◌⊎◌, inl, inr}
+use Rattle.std.proofs.Common.{Option, Some, None, unwrap_or}
 use Prim.Native.Nat.{ℕ, ◌+◌, ◌*◌, ◌≤◌}
 use native.Mathlib.Omega.{arith}
-use lib.ListN.{length, replicate, length-replicate}
+use lib.ListN.{replicate, length-replicate}
 use Rattle.ids.specs.Id.{KnownTo}
 use Rattle.diagram.specs.Table.{variables}
 use Rattle.algebra.specs.Disjointness.{is_disjoint}
@@ -17,7 +18,6 @@ use Rattle.memo.proofs.Recalled.{memo_zeroed}
 use Rattle.views.specs.Seeing.{used_in, Readable}
 use Rattle.views.proofs.Sights.{sound_readable, asked_of_all_known, used_is}
 use Rattle.disjointness.specs.Asking.{whole, AskedPair, Answers}
-use Rattle.disjointness.specs.declared.Tried.{Tried}
 
 pub zeroed_asked : {st : Store} {x y : ℕ} (k : ℕ) → k ≤ most_nodes * 8 → Readable st (used_in st.nodes) → KnownTo (used_in st.nodes) x → KnownTo (used_in st.nodes) y → AskedPair st (replicate k 0) (variables + 1) x y
 zeroed_asked k h r hx hy = record {
@@ -26,9 +26,11 @@ zeroed_asked k h r hx hy = record {
   right = asked_of_all_known hy;
 }
 
--- with a set of words to note in, and a rest, what is found is the answer
-pub noting_answer : {st : Store} {noted : List ℕ} {want : Bool} {r : Tried} (k : ℕ) → 8 ≤ k → length noted ≡ length (replicate {A = ℕ} k 0) → Answers st noted 1 want r → r.yes ≡ want
-noting_answer k h e a = a.right (inr (omega (arith, a.stays (omega (arith, e, length-replicate {A = ℕ} k 0)))))
+-- a yes is the answer, and so is a no with a rest: what the walks promised when they answered a flag and a rest
+pub sure_answer : {st : Store} {noted : List ℕ} {rest rest' : ℕ} {want : Bool} {r : Option Bool} → Answers st noted rest rest' want r → (unwrap_or r false ≡ true) ⊎ (1 ≤ rest') → unwrap_or r false ≡ want
+sure_answer {r = None} a (inl h) = absurd (false≢true h)
+sure_answer {r = None} a (inr h) = absurd (omega (arith, a.right))
+sure_answer {r = Some b} a h = a.right
 
 module _ {st : Store} {index : List ℕ} {u : ℕ} (s : SoundLent st index u) where
   used : used_in st.nodes ≡ u

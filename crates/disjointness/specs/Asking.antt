@@ -1,5 +1,5 @@
 -- What disjointness asks of a lent table and of its memo, and what it answers. Document 01, step 6. Assumes nothing.
-use Rattle.std.specs.Prelude.{◌≡◌, ◌||◌, Bool, true, false, ◌&&◌, List, ◌⊎◌, ℕ, ◌*◌, ◌≤◌, eqb, length}
+use Rattle.std.specs.Prelude.{◌≡◌, ◌||◌, Bool, false, ◌&&◌, List, ℕ, ◌*◌, ◌≤◌, eqb, length, Option, MatchOption}
 use Rattle.ids.specs.Id.{TRUE, FALSE, flip}
 use Rattle.diagram.specs.Pieces.{Pieces}
 use Rattle.diagram.specs.Shape.{Each, Rising}
@@ -11,7 +11,6 @@ use Rattle.table.specs.Held.{held}
 use Rattle.memo.specs.Recalling.{Memo}
 use Rattle.views.specs.Seeing.{used_in, Readable, Asked, seen, Inside}
 use Rattle.views.specs.declared.View.{View}
-use Rattle.disjointness.specs.declared.Tried.{Tried}
 
 -- The table that is held.
 abbrev pub whole : Store → Table
@@ -60,13 +59,9 @@ pub record AskedSides (st : Store) (noted : List ℕ) (v n : ℕ) (a b : View) :
   pub right_asked : Each (AskedIn st n) (seen st.children st.cuts v b 0)
   pub two_edges : first_boolean ≤ v → (a.count ≤ 2) × (b.count ≤ 2)
 
--- A yes is an answer, and so is a no with a rest.
-abbrev pub Sure : Tried → Type 0
-Sure r = (r.yes ≡ true) ⊎ (1 ≤ r.rest)
-
--- The answer, if it is one, is the one that is wanted; what the memo says afterwards is still true; and where there is a set of words to note
--- in, the rest stays.
-pub record Answers (st : Store) (noted : List ℕ) (rest : ℕ) (want : Bool) (r : Tried) : Type 0 where
-  pub right : Sure r → r.yes ≡ want
+-- The answer, if there is one, is the one that is wanted: there is none only where no rest is left. What the memo says afterwards is still
+-- true; and where there is a set of words to note in, the rest stays.
+pub record Answers (st : Store) (noted : List ℕ) (rest rest' : ℕ) (want : Bool) (r : Option Bool) : Type 0 where
+  pub right : MatchOption r (rest' ≡ 0) (λ yes. yes ≡ want)
   pub listed : Listed st noted
-  pub stays : 8 ≤ length noted → r.rest ≡ rest
+  pub stays : 8 ≤ length noted → rest' ≡ rest

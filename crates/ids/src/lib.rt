@@ -7,11 +7,11 @@ ghost use Rattle.ids.specs.Id.{TRUE, FALSE, id_of, sign, ref, flip, under};
 ghost use Rattle.ids.specs.Index.{index_of};
 
 // A reference to a node, or to a terminal: a number with a type of its own. The lowest bit is the complement.
-#[derive(Clone, Copy)]
+#[derive(Clone, Copy, PartialEq, Eq)]
 pub struct NodeId(pub u32);
 
 // What an id names in a table that uses some number of nodes.
-#[derive(Clone, Copy)]
+#[derive(Clone, Copy, PartialEq, Eq)]
 pub enum Index {
     // TRUE or FALSE.
     Terminal,
@@ -34,10 +34,7 @@ impl NodeId {
         ensures { result.0 ≡ cond complement (flip (id_of index)) (id_of index) }
     {
         let id = (index + 1) * 2;
-        if complement {
-            return NodeId(id + 1);
-        }
-        NodeId(id)
+        NodeId(if complement { id + 1 } else { id })
     }
 
     // What the id names, ignoring the complement. The source underflows on a terminal.
@@ -73,30 +70,33 @@ impl NodeId {
     pub fn not(self) -> NodeId
         ensures { result.0 ≡ flip self.0 }
     {
-        let id = self.0;
-        if id % 2 == 0 {
-            NodeId(id + 1)
+        NodeId(if self.is_complement() {
+            self.0 - 1
         } else {
-            NodeId(id - 1)
-        }
+            self.0 + 1
+        })
     }
 
     // The complement where the parent is complemented: a child's sign as it is seen when walking down through that parent.
     pub fn negate(self, parent: NodeId) -> NodeId
         ensures { result.0 ≡ under (sign parent.0) self.0 }
     {
-        if parent.0 % 2 == 0 { self } else { self.not() }
+        if parent.is_complement() {
+            self.not()
+        } else {
+            self
+        }
     }
 
     pub fn is_true(self) -> bool
         ensures { result ≡ eqb self.0 TRUE }
     {
-        self.0 == 0
+        self == NodeId::TRUE
     }
 
     pub fn is_false(self) -> bool
         ensures { result ≡ eqb self.0 FALSE }
     {
-        self.0 == 1
+        self == NodeId::FALSE
     }
 }

@@ -1,5 +1,5 @@
 -- What the proofs of the conditions' calls hand their facts to: what is found before any work, and each row. Assumes nothing.
-use mathlib.Core.Path.{◌≡◌, refl, ap}
+use mathlib.Core.Path.{◌≡◌, refl, sym, ap, subst}
 use mathlib.Core.Bool.{Bool, true, false, cond}
 use mathlib.Core.List.{List, []}
 use Prim.Native.Nat.{ℕ}
@@ -13,15 +13,18 @@ use Rattle.ranges.specs.declared.bounds.Bound.{Bound}
 use Rattle.ranges.specs.declared.bounds.Comparison.{Comparison}
 use Rattle.diagram.specs.Table.{Table}
 use Rattle.algebra.specs.Conditions.{from_range, comparison, from_bool}
-use Rattle.table.specs.Deciding.{Decides}
-use Rattle.table.specs.Told.{done, Allowed, Checks, checked_1, checked_2, checked_0, refused_last}
+use Rattle.std.specs.Prelude.{Decides}
+use Rattle.table.specs.Told.{done, wrong_variable, no_room, number_of, Allowed, Checks, checked_1, checked_2, checked_0, refused_last}
 use Rattle.table.proofs.Laws.{decided_true, decided_false}
 use Rattle.table.proofs.Hearing.{check_refuses}
-use Rattle.making.specs.declared.nodes.Used.{Used}
-use Rattle.making.specs.declared.nodes.Made.{Made}
+use Rattle.table.specs.declared.lent.Used.{Used}
+use Rattle.making.specs.Made.{Made}
 use Rattle.making.specs.Outcome.{Lent, Creates, table_of}
-use Rattle.kernel.specs.Makes.{wrong_variable, no_room, Makes, made_no}
-use Rattle.kernel.specs.Admitting.{Admits, not_lent, not_kind, admitted}
+use Rattle.kernel.specs.Makes.{Makes, made_no}
+use Rattle.std.specs.Prelude.{Result, Ok, Err, IsErrAnd}
+use Rattle.table.specs.declared.refusal.Refusal.{Refusal}
+use Rattle.kernel.specs.Admitting.{Admits, not_lent, not_kind, admitted, AdmitsTo}
+use Rattle.kernel.proofs.Results.{refusal_not_done}
 use Rattle.kernel.proofs.Handing.{outcome_told}
 use Rattle.table.specs.Layout.{Store}
 
@@ -39,14 +42,20 @@ module _ {st : Store} {index : List ℕ} where
   admits_it c q e = rw e (admitted _ (check_lends c q))
 
   -- what a condition may work on
-  pub admitted_lent : {kind : Type 0} {b : Bool} {k : ℕ} {h : Used} → Decides kind b → Admits st index b k h → k ≡ done → Lent h st index × kind
+  pub admitted_lent : {kind : Type 0} {b : Bool} {k : ℕ} {h : Used} → Decides b kind → Admits st index b k h → k ≡ done → Lent h st index × kind
   admitted_lent d (not_lent b h c n) q = absurd (n q)
   admitted_lent d (not_kind h l) q = absurd (omega arith)
   admitted_lent d (admitted h l) q = (l, decided_true d refl)
 
+module _ {st : Store} {index : List ℕ} (kind : Bool) where
+  -- the answers of `admit`
+  pub admit_refuses : (e : Refusal) → Checks st index (number_of e) 0 0 → (r : Result Used Refusal) → IsErrAnd r (λ y. y ≡ e) → AdmitsTo st index kind r
+  admit_refuses e c (Ok u) q = absurd q
+  admit_refuses e c (Err y) q = (record { nodes = 0; edges = 0 }, not_lent kind _ (subst (λ (x : Refusal). Checks st index (number_of x) 0 0) (sym q) c) (refusal_not_done y))
+
 module _ (kind : Type 0) (want : Table → Table × ℕ) (st : Store) (index : List ℕ) where
   -- rows 1, 2 and 4
-  pub condition_refused : {b : Bool} {k n id : ℕ} {h : Used} → Decides kind b → Admits st index b k h → (k ≡ done → ⊥) → (n ≡ k) × (id ≡ FALSE)
+  pub condition_refused : {b : Bool} {k n id : ℕ} {h : Used} → Decides b kind → Admits st index b k h → (k ≡ done → ⊥) → (n ≡ k) × (id ≡ FALSE)
       → Makes (Allowed st index) (λ u. Unit {0}) kind want st index [] n id st index []
   condition_refused d (not_lent b h c f) x q = rw (q.0, q.1) (made_no (check_refuses (λ a. a) (λ a. a) c f))
   condition_refused d (not_kind h l) x q = rw (q.0, q.1) (made_no (refused_last l.allowed h.nodes l.sound tt (decided_false d refl)))
@@ -59,12 +68,6 @@ module _ (kind : Type 0) (want : Table → Table × ℕ) (st : Store) (index : L
         → Makes (Allowed st index) (λ u. Unit {0}) kind want st index [] n id st' index' []
     condition_answered (l, p) o e q = outcome_told _ _ kind want st index [] l.allowed l tt p o refl e q
 
--- The code hands a variable on as a wide number, and a key as 32 bits.
-pub same_range : (t : Table) {w v : ℕ} (lower upper : Bound) → w ≡ v → from_range t w lower upper ≡ from_range t v lower upper
-same_range t lower upper e = ap (λ (n : ℕ). from_range t n lower upper) e
-
-pub same_bool : (t : Table) {w v : ℕ} → w ≡ v → from_bool t w ≡ from_bool t v
-same_bool t e = ap (from_bool t) e
-
-pub same_comparison : (t : Table) {w v : ℕ} (op : Comparison) (key : ℤ) → w ≡ v → SFits w32 key → comparison t w op (to_z w32 (of_z w32 key)) ≡ comparison t v op key
-same_comparison t op key e f = rw (e, to_z-of_z w32 key f)
+-- The code hands a key on as 32 bits.
+pub same_comparison : (t : Table) (v : ℕ) (op : Comparison) (key : ℤ) → SFits w32 key → comparison t v op (to_z w32 (of_z w32 key)) ≡ comparison t v op key
+same_comparison t v op key f = rw (to_z-of_z w32 key f)

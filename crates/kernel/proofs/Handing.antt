@@ -10,12 +10,12 @@ use Rattle.diagram.specs.Room.{Fits}
 use Rattle.table.specs.Layout.{room, Store}
 use Rattle.table.specs.Lent.{SoundLent}
 use Rattle.table.specs.Held.{held}
-use Rattle.table.specs.Told.{done, Allowed}
-use Rattle.making.specs.declared.nodes.Used.{Used}
-use Rattle.making.specs.declared.nodes.Made.{Made}
+use Rattle.table.specs.Told.{done, no_room, Allowed}
+use Rattle.table.specs.declared.lent.Used.{Used}
+use Rattle.making.specs.Made.{Made}
 use Rattle.making.specs.Outcome.{Lent, Outcome, Creates, table_of}
 use Rattle.making.proofs.Taken.{cuts_as_long, index_as_long}
-use Rattle.kernel.specs.Makes.{no_room, Leaves, Makes, made_6, made_0}
+use Rattle.kernel.specs.Makes.{Leaves, Makes, made_6, made_0}
 
 -- what a call leaves, from a table that is sound again in the same room
 pub leaves_it : {t : Table} (st : Store) (index : List ℕ) (st' : Store) (index' : List ℕ) (u : ℕ) → Allowed st index → Allowed st' index'

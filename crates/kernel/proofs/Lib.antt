@@ -2,6 +2,7 @@
 pub mod Once
 pub mod Asked
 pub mod Promises
+pub mod Results
 pub mod Handing
 pub mod Deciding
 pub mod Admitted

@@ -20,12 +20,12 @@ use Rattle.algebra.proofs.Promises.{disjoint_exactly, fits_exactly}
 use Rattle.table.specs.Layout.{room, Store}
 use Rattle.table.specs.Lent.{SoundLent}
 use Rattle.table.specs.Held.{held}
-use Rattle.table.specs.Told.{done, Checks, Refuses, refused_1, refused_2, refused_3, refused_last, reply_no, reply_0}
+use Rattle.table.specs.Told.{done, wrong_variable, Checks, Refuses, refused_1, refused_2, refused_3, refused_last, reply_no, reply_0}
 use Rattle.table.proofs.Once.{sound_once}
 use Rattle.table.proofs.Hearing.{not_refused, refused_not_done}
 use Rattle.table.proofs.Promises.{holds_a_sound_table, counts_what_is_held}
 use Rattle.kernel.specs.Calls.{Call, row}
-use Rattle.kernel.specs.Makes.{wrong_variable, Leaves, Makes, made_no, made_6, made_0, Comes, Disjoints}
+use Rattle.kernel.specs.Makes.{Leaves, Makes, made_no, made_6, made_0, Comes, Disjoints}
 use Rattle.kernel.specs.Meaning.{Answered, LentAnswer, DoneOrNoRoom}
 use Rattle.kernel.proofs.Admitted.{check_lends}
 use Rattle.kernel.proofs.Asked.{makes_what_is_asked, something_is_asked, one_thing_is_asked}

@@ -1,11 +1,11 @@
 -- What the calls find before any work. Assumes nothing.
-use Rattle.std.specs.Prelude.{◌≡◌, Bool, true, false, List, ℕ}
+use Rattle.std.specs.Prelude.{◌≡◌, Bool, true, false, List, Result, Ok, Err, ℕ}
 use Rattle.table.specs.Layout.{room, MemoLengths, Store}
-use Rattle.table.specs.Told.{done, wrong_room, unknown_id, Checks}
-use Rattle.making.specs.declared.nodes.Used.{Used}
+use Rattle.table.specs.declared.refusal.Refusal.{Refusal}
+use Rattle.table.specs.Told.{done, wrong_room, unknown_id, wrong_variable, number_of, Checks}
+use Rattle.table.specs.declared.lent.Used.{Used}
 use Rattle.making.specs.Outcome.{Lent}
 use Rattle.kernel.specs.Calls.{BothKnown}
-use Rattle.kernel.specs.Makes.{wrong_variable}
 
 -- In the order of the checks: a refusal by the check of the table, a variable that is not of the kind that is asked, or a table to work on.
 pub data Admits (st : Store) (index : List ℕ) : Bool → ℕ → Used → Type 0 where
@@ -21,3 +21,12 @@ pub data AdmitsIds (st : Store) (index : List ℕ) (n x y : ℕ) : Bool → ℕ 
   ids_not_known : (kind : Bool) (h : Used) → MemoLengths n (room st.nodes) → Lent h st index → (BothKnown x y h.nodes → ⊥) → AdmitsIds st index n x y kind unknown_id h
   ids_not_kind : (h : Used) → MemoLengths n (room st.nodes) → Lent h st index → BothKnown x y h.nodes → AdmitsIds st index n x y false wrong_variable h
   ids_admitted : (h : Used) → MemoLengths n (room st.nodes) → Lent h st index → BothKnown x y h.nodes → AdmitsIds st index n x y true done h
+
+-- The same of an answer of the code: the table to work on, or a refusal by its number.
+abbrev pub AdmitsTo : Store → List ℕ → Bool → Result Used Refusal → Type 0
+AdmitsTo st index kind (Ok h) = Admits st index kind done h
+AdmitsTo st index kind (Err e) = (h : Used) × Admits st index kind (number_of e) h
+
+abbrev pub AdmitsIdsTo : Store → List ℕ → ℕ → ℕ → ℕ → Bool → Result Used Refusal → Type 0
+AdmitsIdsTo st index n x y kind (Ok h) = AdmitsIds st index n x y kind done h
+AdmitsIdsTo st index n x y kind (Err e) = (h : Used) × AdmitsIds st index n x y kind (number_of e) h

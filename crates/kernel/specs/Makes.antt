@@ -8,15 +8,8 @@ use Rattle.algebra.specs.Disjointness.{is_disjoint}
 use Rattle.table.specs.Layout.{room, Store}
 use Rattle.table.specs.Lent.{SoundLent}
 use Rattle.table.specs.Held.{held}
-use Rattle.table.specs.Told.{done, Allowed, Refuses, Replies}
+use Rattle.table.specs.Told.{done, wrong_variable, no_room, Allowed, Refuses, Replies}
 use Rattle.kernel.specs.Calls.{Call, row, BothKnown}
-
--- The numbers of the table in document 01 that only these calls give.
-abbrev pub wrong_variable : ℕ
-wrong_variable = 4
-
-abbrev pub no_room : ℕ
-no_room = 6
 
 -- "The table with only the answer's missing nodes added": in the room that was lent, sound, and holding this table.
 pub record Leaves (t : Table) (st : Store) (index : List ℕ) (st' : Store) (index' : List ℕ) : Type 0 where

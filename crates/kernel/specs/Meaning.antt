@@ -7,9 +7,9 @@ use Rattle.diagram.specs.Ordered.{Path, diagram_of}
 use Rattle.table.specs.Layout.{Store}
 use Rattle.table.specs.Lent.{SoundLent}
 use Rattle.table.specs.Held.{held}
-use Rattle.table.specs.Told.{done}
+use Rattle.table.specs.Told.{done, no_room}
 use Rattle.kernel.specs.Calls.{Call, row}
-use Rattle.kernel.specs.Makes.{no_room, Leaves}
+use Rattle.kernel.specs.Makes.{Leaves}
 
 -- Done: the words before the call and those after it are sound tables; its ids were known and its variable of the kind that is asked; the table
 -- after it continues the one before; the id is one of its ids and says under every reading what is asked from the table before; and "every

@@ -1,115 +1,94 @@
 // Restriction, narrowing and widening. Document 01, steps 7 to 9. Refusals 1, 2, 3, 4 and 6; "narrowing and widening ask a range variable",
 // and restriction takes any of the 64.
 ghost use Rattle.kernel.specs.Calls.{restriction_of, narrowing_of, widening_of};
-ghost use Rattle.kernel.specs.Makes.{Comes};
-ghost use Rattle.table.specs.Layout.{store};
+ghost use Rattle.kernel.specs.Answering.{Answers};
+ghost use Rattle.table.specs.Lending.{SameSlices};
 
 use super::admission::{admit_ids, is_range, is_variable};
-use super::answers::{Answer, answer_of, refused};
 use changes::{narrowing, restriction, widening};
 use ids::NodeId;
-use memo::{clear, wipe};
+use making::used::UsedTable;
+use memo::clear;
 use ranges::bounds::Bound;
-use table::told::DONE;
-use table::words::wide;
+use table::lent::TableMut;
+use table::refusal::Refusal;
 
 // "Restriction .. of one boolean to a value".
 pub fn restrict(
-    nodes: &mut [u32],
-    children: &mut [u32],
-    cuts: &mut [i64],
-    index: &mut [u32],
+    table: &mut TableMut,
     memo: &mut [u64],
     id: NodeId,
     v: u32,
     value: bool,
-) -> Answer
-    ensures { Comes (restriction_of id.0 v value) (store nodes.old children.old cuts.old) index.old memo.old result.number result.id.0 (store nodes.new children.new cuts.new) index.new memo.new }
+) -> Result<NodeId, Refusal>
+    ensures comes { Answers (restriction_of id.0 v value) table.old memo.old result table.new memo.new }
+    ensures same { SameSlices table.old table.new }
 {
-    let kind = is_variable(v);
-    let a = admit_ids(nodes, children, cuts, index, memo.len(), id, id, kind);
-    if a.number != DONE {
-        return refused(a.number);
-    }
-    let used = a.used;
+    let used = admit_ids(&table.read(), memo.len(), id, id, is_variable(v))?;
+    // Written out in each call, as in `joins_calls`.
+    let mut used_table = UsedTable {
+        nodes: table.nodes,
+        children: table.children,
+        cuts: table.cuts,
+        index: table.index,
+        used,
+    };
     // Only after the checks, since refusals 1 to 4 leave the memo as found.
-    wipe(memo);
-    let m = restriction::restrict(nodes, children, cuts, index, memo, used, id, wide(v), value);
+    memo.fill(0);
+    let answer = restriction::restrict(&mut used_table, memo, id, v as usize, value);
     // Again, and after "no room" too: entries may then name nodes that were taken back.
     clear(memo);
-    answer_of(m)
+    Ok(answer?)
 }
 
 // "The answer at a place is the old answer at the nearest place inside the bounds".
 pub fn narrow(
-    nodes: &mut [u32],
-    children: &mut [u32],
-    cuts: &mut [i64],
-    index: &mut [u32],
+    table: &mut TableMut,
     memo: &mut [u64],
     id: NodeId,
     v: u32,
     lower: Bound,
     upper: Bound,
-) -> Answer
-    ensures { Comes (narrowing_of id.0 v lower upper) (store nodes.old children.old cuts.old) index.old memo.old result.number result.id.0 (store nodes.new children.new cuts.new) index.new memo.new }
+) -> Result<NodeId, Refusal>
+    ensures comes { Answers (narrowing_of id.0 v lower upper) table.old memo.old result table.new memo.new }
+    ensures same { SameSlices table.old table.new }
 {
-    let kind = is_range(v);
-    let a = admit_ids(nodes, children, cuts, index, memo.len(), id, id, kind);
-    if a.number != DONE {
-        return refused(a.number);
-    }
-    let used = a.used;
-    wipe(memo);
-    let m = narrowing::narrow(
-        nodes,
-        children,
-        cuts,
-        index,
-        memo,
+    let used = admit_ids(&table.read(), memo.len(), id, id, is_range(v))?;
+    let mut used_table = UsedTable {
+        nodes: table.nodes,
+        children: table.children,
+        cuts: table.cuts,
+        index: table.index,
         used,
-        id,
-        wide(v),
-        lower,
-        upper,
-    );
+    };
+    memo.fill(0);
+    let answer = narrowing::narrow(&mut used_table, memo, id, v as usize, lower, upper);
     clear(memo);
-    answer_of(m)
+    Ok(answer?)
 }
 
 // "Old answer and inside the bounds."
 pub fn widen(
-    nodes: &mut [u32],
-    children: &mut [u32],
-    cuts: &mut [i64],
-    index: &mut [u32],
+    table: &mut TableMut,
     memo: &mut [u64],
     id: NodeId,
     v: u32,
     lower: Bound,
     upper: Bound,
-) -> Answer
-    ensures { Comes (widening_of id.0 v lower upper) (store nodes.old children.old cuts.old) index.old memo.old result.number result.id.0 (store nodes.new children.new cuts.new) index.new memo.new }
+) -> Result<NodeId, Refusal>
+    ensures comes { Answers (widening_of id.0 v lower upper) table.old memo.old result table.new memo.new }
+    ensures same { SameSlices table.old table.new }
 {
-    let kind = is_range(v);
-    let a = admit_ids(nodes, children, cuts, index, memo.len(), id, id, kind);
-    if a.number != DONE {
-        return refused(a.number);
-    }
-    let used = a.used;
-    wipe(memo);
-    let m = widening::widen(
-        nodes,
-        children,
-        cuts,
-        index,
-        memo,
+    let used = admit_ids(&table.read(), memo.len(), id, id, is_range(v))?;
+    let mut used_table = UsedTable {
+        nodes: table.nodes,
+        children: table.children,
+        cuts: table.cuts,
+        index: table.index,
         used,
-        id,
-        wide(v),
-        lower,
-        upper,
-    );
+    };
+    memo.fill(0);
+    let answer = widening::widen(&mut used_table, memo, id, v as usize, lower, upper);
     clear(memo);
-    answer_of(m)
+    Ok(answer?)
 }

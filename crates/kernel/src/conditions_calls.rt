@@ -2,69 +2,71 @@
 // boolean one".
 ghost use Rattle.std.specs.Prelude.{[]};
 ghost use Rattle.kernel.specs.Calls.{range_of, comparison_of, boolean_of};
-ghost use Rattle.kernel.specs.Makes.{Comes};
-ghost use Rattle.table.specs.Layout.{store};
+ghost use Rattle.kernel.specs.Answering.{Answers};
+ghost use Rattle.table.specs.Lending.{SameSlices};
 
 use super::admission::{admit, is_boolean, is_range};
-use super::answers::{Answer, answer_of, refused};
+use ids::NodeId;
+use making::used::UsedTable;
 use ranges::bounds::{Bound, Comparison};
-use table::told::DONE;
-use table::words::wide;
+use table::lent::TableMut;
+use table::refusal::Refusal;
 
 // "A range by two bounds".
 pub fn from_range(
-    nodes: &mut [u32],
-    children: &mut [u32],
-    cuts: &mut [i64],
-    index: &mut [u32],
+    table: &mut TableMut,
     v: u32,
     lower: Bound,
     upper: Bound,
-) -> Answer
-    ensures { Comes (range_of v lower upper) (store nodes.old children.old cuts.old) index.old [] result.number result.id.0 (store nodes.new children.new cuts.new) index.new [] }
+) -> Result<NodeId, Refusal>
+    ensures comes { Answers (range_of v lower upper) table.old [] result table.new [] }
+    ensures same { SameSlices table.old table.new }
 {
-    let a = admit(nodes, children, cuts, index, is_range(v));
-    if a.number != DONE {
-        return refused(a.number);
-    }
-    let used = a.used;
-    answer_of(conditions::from_range(nodes, children, cuts, index, used, wide(v), lower, upper))
+    let used = admit(&table.read(), is_range(v))?;
+    // Written out in each call, as in `joins_calls`.
+    let mut used_table = UsedTable {
+        nodes: table.nodes,
+        children: table.children,
+        cuts: table.cuts,
+        index: table.index,
+        used,
+    };
+    Ok(conditions::from_range(&mut used_table, v as usize, lower, upper)?)
 }
 
 // "Six comparisons with a key: = != < <= > >=".
 pub fn from_comparison(
-    nodes: &mut [u32],
-    children: &mut [u32],
-    cuts: &mut [i64],
-    index: &mut [u32],
+    table: &mut TableMut,
     v: u32,
     op: Comparison,
     key: i32,
-) -> Answer
-    ensures { Comes (comparison_of v op key) (store nodes.old children.old cuts.old) index.old [] result.number result.id.0 (store nodes.new children.new cuts.new) index.new [] }
+) -> Result<NodeId, Refusal>
+    ensures comes { Answers (comparison_of v op key) table.old [] result table.new [] }
+    ensures same { SameSlices table.old table.new }
 {
-    let a = admit(nodes, children, cuts, index, is_range(v));
-    if a.number != DONE {
-        return refused(a.number);
-    }
-    let used = a.used;
-    answer_of(conditions::from_comparison(nodes, children, cuts, index, used, wide(v), op, key))
+    let used = admit(&table.read(), is_range(v))?;
+    let mut used_table = UsedTable {
+        nodes: table.nodes,
+        children: table.children,
+        cuts: table.cuts,
+        index: table.index,
+        used,
+    };
+    Ok(conditions::from_comparison(&mut used_table, v as usize, op, key)?)
 }
 
 // A boolean.
-pub fn from_bool(
-    nodes: &mut [u32],
-    children: &mut [u32],
-    cuts: &mut [i64],
-    index: &mut [u32],
-    v: u32,
-) -> Answer
-    ensures { Comes (boolean_of v) (store nodes.old children.old cuts.old) index.old [] result.number result.id.0 (store nodes.new children.new cuts.new) index.new [] }
+pub fn from_bool(table: &mut TableMut, v: u32) -> Result<NodeId, Refusal>
+    ensures comes { Answers (boolean_of v) table.old [] result table.new [] }
+    ensures same { SameSlices table.old table.new }
 {
-    let a = admit(nodes, children, cuts, index, is_boolean(v));
-    if a.number != DONE {
-        return refused(a.number);
-    }
-    let used = a.used;
-    answer_of(conditions::from_bool(nodes, children, cuts, index, used, wide(v)))
+    let used = admit(&table.read(), is_boolean(v))?;
+    let mut used_table = UsedTable {
+        nodes: table.nodes,
+        children: table.children,
+        cuts: table.cuts,
+        index: table.index,
+        used,
+    };
+    Ok(conditions::from_bool(&mut used_table, v as usize)?)
 }

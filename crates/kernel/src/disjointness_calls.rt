@@ -1,36 +1,21 @@
 // Disjointness. Document 01, step 6. Refusals 1, 2 and 3.
 ghost use Rattle.kernel.specs.Makes.{Disjoints};
-ghost use Rattle.table.specs.Layout.{store};
+ghost use Rattle.table.specs.Lending.{store_in};
+ghost use Rattle.table.specs.Told.{number_in, yes_in};
 
 use super::admission::both_known;
 use ids::NodeId;
 use table::calls::check;
-use table::told::{DONE, Told, UNKNOWN_ID};
+use table::lent::Table;
+use table::refusal::Refusal;
 
 // Whether no reading makes both ids true. "Disjointness and reading borrow no memo and change nothing."
-pub fn is_disjoint(
-    nodes: &[u32],
-    children: &[u32],
-    cuts: &[i64],
-    index: &[u32],
-    x: NodeId,
-    y: NodeId,
-) -> Told
-    ensures { Disjoints (store nodes.now children.now cuts.now) index.now x.0 y.0 result.number result.yes }
+pub fn is_disjoint(table: &Table, x: NodeId, y: NodeId) -> Result<bool, Refusal>
+    ensures { Disjoints (store_in table.now) table.now.index.now x.0 y.0 (number_in result) (yes_in result) }
 {
-    let c = check(nodes, children, cuts, index);
-    if c.number != DONE {
-        return Told {
-            number: c.number,
-            yes: false,
-        };
+    let used = check(table)?;
+    if !both_known(used.nodes, x, y) {
+        return Err(Refusal::UnknownId);
     }
-    if !both_known(c.nodes, x, y) {
-        return Told {
-            number: UNKNOWN_ID,
-            yes: false,
-        };
-    }
-    let yes = disjointness::is_disjoint(nodes, children, cuts, x, y);
-    Told { number: DONE, yes }
+    Ok(disjointness::is_disjoint(table, x, y))
 }

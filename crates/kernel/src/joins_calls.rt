@@ -1,59 +1,53 @@
 // Conjunction and disjunction. Document 01, step 5. Refusals 1, 2, 3 and 6. "The memo is scratch: zeroed at entry, never believed", and all zero
 // at the end.
 ghost use Rattle.kernel.specs.Calls.{both_of, either_of};
-ghost use Rattle.kernel.specs.Makes.{Comes};
-ghost use Rattle.table.specs.Layout.{store};
+ghost use Rattle.kernel.specs.Answering.{Answers};
+ghost use Rattle.table.specs.Lending.{SameSlices};
 
 use super::admission::admit_ids;
-use super::answers::{Answer, answer_of, refused};
 use conjunction::joins;
 use ids::NodeId;
-use memo::{clear, wipe};
-use table::told::DONE;
+use making::used::UsedTable;
+use memo::clear;
+use table::lent::TableMut;
+use table::refusal::Refusal;
 
 // Both.
-pub fn and(
-    nodes: &mut [u32],
-    children: &mut [u32],
-    cuts: &mut [i64],
-    index: &mut [u32],
-    memo: &mut [u64],
-    x: NodeId,
-    y: NodeId,
-) -> Answer
-    ensures { Comes (both_of x.0 y.0) (store nodes.old children.old cuts.old) index.old memo.old result.number result.id.0 (store nodes.new children.new cuts.new) index.new memo.new }
+pub fn and(table: &mut TableMut, memo: &mut [u64], x: NodeId, y: NodeId) -> Result<NodeId, Refusal>
+    ensures comes { Answers (both_of x.0 y.0) table.old memo.old result table.new memo.new }
+    ensures same { SameSlices table.old table.new }
 {
-    let a = admit_ids(nodes, children, cuts, index, memo.len(), x, y, true);
-    if a.number != DONE {
-        return refused(a.number);
-    }
-    let used = a.used;
+    let used = admit_ids(&table.read(), memo.len(), x, y, true)?;
+    // Written out in each call: no clause can say what four slices become that a function lends on in a struct, and a closure is no plainer.
+    let mut used_table = UsedTable {
+        nodes: table.nodes,
+        children: table.children,
+        cuts: table.cuts,
+        index: table.index,
+        used,
+    };
     // Cleared at both ends: what was lent is never believed, and what was worked out is left to nobody.
-    wipe(memo);
-    let m = joins::and(nodes, children, cuts, index, memo, used, x, y);
+    memo.fill(0);
+    let answer = joins::and(&mut used_table, memo, x, y);
     clear(memo);
-    answer_of(m)
+    Ok(answer?)
 }
 
 // One or both.
-pub fn or(
-    nodes: &mut [u32],
-    children: &mut [u32],
-    cuts: &mut [i64],
-    index: &mut [u32],
-    memo: &mut [u64],
-    x: NodeId,
-    y: NodeId,
-) -> Answer
-    ensures { Comes (either_of x.0 y.0) (store nodes.old children.old cuts.old) index.old memo.old result.number result.id.0 (store nodes.new children.new cuts.new) index.new memo.new }
+pub fn or(table: &mut TableMut, memo: &mut [u64], x: NodeId, y: NodeId) -> Result<NodeId, Refusal>
+    ensures comes { Answers (either_of x.0 y.0) table.old memo.old result table.new memo.new }
+    ensures same { SameSlices table.old table.new }
 {
-    let a = admit_ids(nodes, children, cuts, index, memo.len(), x, y, true);
-    if a.number != DONE {
-        return refused(a.number);
-    }
-    let used = a.used;
-    wipe(memo);
-    let m = joins::or(nodes, children, cuts, index, memo, used, x, y);
+    let used = admit_ids(&table.read(), memo.len(), x, y, true)?;
+    let mut used_table = UsedTable {
+        nodes: table.nodes,
+        children: table.children,
+        cuts: table.cuts,
+        index: table.index,
+        used,
+    };
+    memo.fill(0);
+    let answer = joins::or(&mut used_table, memo, x, y);
     clear(memo);
-    answer_of(m)
+    Ok(answer?)
 }

@@ -4,7 +4,6 @@
 #![tactic(auto)]
 
 mod admission;
-pub mod answers;
 pub mod changes_calls;
 pub mod conditions_calls;
 pub mod disjointness_calls;

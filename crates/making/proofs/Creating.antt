@@ -8,7 +8,7 @@ use lib.ListN.{length}
 use Rattle.ids.specs.Id.{sign, under}
 use Rattle.ids.specs.declared.NodeId.{NodeId}
 use Rattle.diagram.specs.Shape.{Each, Reduced, run}
-use Rattle.diagram.specs.Table.{top_of, Table, Node}
+use Rattle.diagram.specs.Table.{variables, top_of, Table, Node}
 use Rattle.diagram.specs.Sound.{Child}
 use Rattle.diagram.specs.Cofactor.{map}
 use Rattle.diagram.specs.Room.{Fits}
@@ -22,11 +22,11 @@ use Rattle.table.proofs.Scan.{table_length}
 use Rattle.table.proofs.Promises.{counts_what_is_held}
 use Rattle.merging.proofs.Fitting.{intern_added, intern_found}
 use Rattle.making.specs.declared.edges.Edges as built
-use Rattle.making.specs.declared.nodes.Used.{Used}
-use Rattle.making.specs.declared.nodes.Made.{Made}
+use Rattle.table.specs.declared.lent.Used.{Used}
 use Rattle.making.specs.Building.{Building, child_in, cut_in, pieces_of, node_of}
-use Rattle.making.specs.Outcome.{Lent, Stays, Creates, Added, Buildable, Mergeable, table_of}
+use Rattle.making.specs.Outcome.{Lent, Creates, Added, Buildable, Mergeable, table_of}
 use Rattle.making.proofs.Matching.{count_of_node}
+use Rattle.making.proofs.Arrays.{cut_small}
 use Rattle.making.proofs.Kept.{stays_refl}
 
 -- One edge is no node,
@@ -55,23 +55,20 @@ module _ {h : Used} {st : Store} {index : List ℕ} (l : Lent h st index) (v : �
   ref_small nd at e = omega (arith, (find_found t nd).inside, table_length st h.nodes, l.sound.records.fits, l.allowed.nodes_at_most)
 
   -- The answer with a node that the table has, or a terminal.
-  abbrev Known : Made → ℕ → Used → Type 0
-  Known r id h' = (r.ok ≡ true) × (r.id.0 ≡ id) × (r.used ≡ h')
-
-  pub kept : {r : Made} {id : ℕ} → Known r id h → {want : Table × ℕ} → want ≡ (t, id) → Creates h want r st index st index
-  kept {r} k {want} e = record {
+  pub kept : {id : NodeId} {n : ℕ} → id.0 ≡ n → {want : Table × ℕ} → want ≡ (t, n) → Creates h want (record { ok = true; id = id; used = h }) st index st index
+  kept k e = record {
     outcome = record {
-      lent = subst (λ (x : Used). Lent x st index) (sym k.2) l;
-      stays = subst (λ (x : Used). Stays h st x st) (sym k.2) stays_refl;
-      table = λ q. ap (λ (x : Used). table_of x st) k.2 ∙ sym (ap (λ (x : Table × ℕ). x.0) e);
-      id = λ q. k.1 ∙ sym (ap (λ (x : Table × ℕ). x.1) e);
-      full = λ q. absurd (not_false_and_true q k.0);
+      lent = l;
+      stays = stays_refl;
+      table = λ q. sym (ap (λ (x : Table × ℕ). x.0) e);
+      id = λ q. k ∙ sym (ap (λ (x : Table × ℕ). x.1) e);
+      full = λ q. absurd (not_false_and_true q refl);
     };
-    untouched = λ q. absurd (not_false_and_true q k.0);
+    untouched = λ q. absurd (not_false_and_true q refl);
   }
 
   pub dropped : es.len ≡ 1 → (id : NodeId) → id.0 ≡ child_in es 0 → Creates h (settle t v (pieces_of es)) (record { ok = true; id = id; used = h }) st index st index
-  dropped one id e = kept (refl, refl, refl) (settle_run t v (child_in es) (cut_in es) (es.len - 1) (omega arith) ∙ ap (λ (x : ℕ). (t, x)) (sym e))
+  dropped one id e = kept e (settle_run t v (child_in es) (cut_in es) (es.len - 1) (omega arith))
 
   module _ (many : 2 ≤ es.len) {lead : ℕ} (first : lead ≡ child_in es 0) where
     abbrev s : ℕ
@@ -80,7 +77,7 @@ module _ {h : Used} {st : Store} {index : List ℕ} (l : Lent h st index) (v : �
     as_node : settle t v (pieces_of es) ≡ intern t (node_of v s es) s
     as_node = intern_run t v (child_in es) (cut_in es) (es.len - 1) (omega arith) ∙ ap (λ (x : ℕ). intern t (node_of v (sign x) es) (sign x)) (sym first)
 
-    pub found_one : (at : ℕ) → 0 < at → at ≡ find t (node_of v s es) → {r : Made} → Known r (under s (at * 2)) h → Creates h (settle t v (pieces_of es)) r st index st index
+    pub found_one : (at : ℕ) → 0 < at → at ≡ find t (node_of v s es) → {id : NodeId} → id.0 ≡ under s (at * 2) → Creates h (settle t v (pieces_of es)) (record { ok = true; id = id; used = h }) st index st index
     found_one zero g e k = absurd (omega arith)
     found_one (suc m) g e k = kept k (as_node ∙ (intern_found t (node_of v s es) s m (sym e) ∙ ap (λ (x : ℕ). (t, x)) (sym (id_under (suc m) s (omega arith)))))
 
@@ -103,24 +100,24 @@ module _ {h : Used} {st : Store} {index : List ℕ} (l : Lent h st index) (v : �
           over : Fits (room st.nodes) (length st.children) (node_of v s es ∷ t) → (h.nodes < room st.nodes) × (h.edges + es.len ≤ length st.children)
           over f = (omega (arith, f.nodes_fit, table_length st h.nodes), omega (arith, f.edges_fit, count_of_node v s es (omega arith), (counts_what_is_held st index h.nodes l.sound).1, l.edges))
 
-      pub added_one : {h' : Used} {st' : Store} {index' : List ℕ} → Added h (node_of v s es) h' st st' index' → {r : Made} → Known r (under s (h'.nodes * 2)) h' → Creates h (settle t v (pieces_of es)) r st index st' index'
-      added_one {h'} {st'} {index'} a {r} k = record {
+      pub added_one : {h' : Used} {st' : Store} {index' : List ℕ} → Added h (node_of v s es) h' st st' index' → {id : NodeId} → id.0 ≡ under s (h'.nodes * 2) → Creates h (settle t v (pieces_of es)) (record { ok = true; id = id; used = h' }) st index st' index'
+      added_one {h'} {st'} {index'} a k = record {
         outcome = record {
-          lent = subst (λ (x : Used). Lent x st' index') (sym k.2) a.lent;
-          stays = subst (λ (x : Used). Stays h st x st') (sym k.2) a.stays;
-          table = λ x. ap (λ (y : Used). table_of y st') k.2 ∙ (a.table ∙ sym (ap (λ (y : Table × ℕ). y.0) wanted));
-          id = λ x. k.1 ∙ (id_under h'.nodes s (omega arith) ∙ (same_id ∙ sym (ap (λ (y : Table × ℕ). y.1) wanted)));
-          full = λ x. absurd (not_false_and_true x k.0);
+          lent = a.lent;
+          stays = a.stays;
+          table = λ x. a.table ∙ sym (ap (λ (y : Table × ℕ). y.0) wanted);
+          id = λ x. k ∙ (id_under h'.nodes s (omega arith) ∙ (same_id ∙ sym (ap (λ (y : Table × ℕ). y.1) wanted)));
+          full = λ x. absurd (not_false_and_true x refl);
         };
-        untouched = λ x. absurd (not_false_and_true x k.0);
+        untouched = λ x. absurd (not_false_and_true x refl);
       }
         where
           same_id : 2 * h'.nodes + s ≡ 2 * suc (length t) + s
           same_id = let b = a.used in let d = table_length st h.nodes in omega arith
 
-      -- The new node's number is one of the room.
-      pub added_small : {h' : Used} {st' : Store} {index' : List ℕ} → Added h (node_of v s es) h' st st' index' → h'.nodes ≤ most_nodes
-      added_small a = omega (arith, a.lent.sound.records.fits, a.lent.allowed.nodes_at_most)
+-- What the hash of their edges asks.
+pub hash_asks : {t : Table} {v : ℕ} {es : built.Edges} → Buildable t v es → Building es × (v < variables) × ((j : ℕ) → j + 1 < es.len → cut_in es j < 8589934593)
+hash_asks {v = v} {es = es} b = (b.building, b.known, cut_small v es b.reduced)
 
 -- Edges that are merged, of edges that could be.
 module _ {t : Table} {v : ℕ} {es : built.Edges} (k : Mergeable t v es) {r : built.Edges} (e : Building r × (pieces_of r ≡ merge (pieces_of es))) where

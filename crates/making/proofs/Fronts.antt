@@ -1,6 +1,6 @@
 -- What a node is ordered by, compared as the code does: number by number, and in parts. Assumes nothing.
 use mathlib.Core.Path.{◌≡◌, refl, sym, ◌∙◌, ap, subst}
-use mathlib.Core.Bool.{cond, ◌&&◌}
+use mathlib.Core.Bool.{Bool, true, false, cond, ◌&&◌}
 use mathlib.Core.List.{List, [], ◌∷◌, ◌++◌}
 use Prim.Native.Nat.{ℕ, suc, ◌+◌, ◌-◌, ◌≤◌, ◌<◌}
 use native.Mathlib.Omega.{arith}
@@ -8,6 +8,11 @@ use native.Mathlib.Numerals.{add-one}
 use lib.ListN.{length}
 use lib.IntN.{ℤ}
 use lib.Dec.{ltb}
+use Rattle.std.specs.Ordering.{ordering_index, nat_cmp, is_ne}
+use Rattle.std.specs.Cmp.{nat_cmp_is}
+use Rattle.std.specs.declared.cmp.Ordering.{Ordering}
+use Rattle.std.specs.declared.cmp.Ordering.TheVariants.{Less, Equal, Greater}
+use Rattle.table.proofs.Laws.{Order, less, equal, more, lt_eq_or_gt, not_false_and_true}
 use Rattle.ids.specs.Id.{under}
 use Rattle.diagram.specs.Table.{is_range}
 use Rattle.chains.specs.Lexical.{run}
@@ -32,6 +37,34 @@ ordered_behind x y l = record { before = λ e. absurd (omega arith); same = λ e
 
 pub ordered_same : {xs ys : List ℕ} → xs ≡ ys → Ordered xs ys 1
 ordered_same e = record { before = λ d. absurd (omega arith); same = λ d. e; behind = λ d. absurd (omega arith) }
+
+pub ordered_cmp : {x y : ℕ} {o : Ordering} → o ≡ nat_cmp x y → Ordered (x ∷ []) (y ∷ []) (ordering_index o)
+ordered_cmp {x} {y} {o} e = go (lt_eq_or_gt x y)
+  where
+    at_answer : (r : Ordering) → r ≡ nat_cmp x y → Ordered (x ∷ []) (y ∷ []) (ordering_index r) → Ordered (x ∷ []) (y ∷ []) (ordering_index o)
+    at_answer r q = subst (λ (a : Ordering). Ordered (x ∷ []) (y ∷ []) (ordering_index a)) (q ∙ sym e)
+
+    go : Order x y → Ordered (x ∷ []) (y ∷ []) (ordering_index o)
+    go (less l) = at_answer Less (nat_cmp_is x y Less l) (ordered_before x y l)
+    go (equal q) = at_answer Equal (nat_cmp_is x y Equal q) (ordered_same (ap (λ (i : ℕ). i ∷ []) q))
+    go (more l) = at_answer Greater (nat_cmp_is x y Greater l) (ordered_behind x y l)
+
+-- What a test of an answer says of it.
+pub index_equal : (o : Ordering) → ordering_index o ≡ 1 → o ≡ Equal
+index_equal Less e = absurd (omega arith)
+index_equal Equal e = refl
+index_equal Greater e = absurd (omega arith)
+
+pub tested_same : (o : Ordering) {b : Bool} → b ≡ is_ne o → b ≡ false → ordering_index o ≡ 1
+tested_same o {b} q f = go o (sym q ∙ f)
+  where
+    go : (o : Ordering) → is_ne o ≡ false → ordering_index o ≡ 1
+    go Less e = absurd (not_false_and_true e refl)
+    go Equal e = refl
+    go Greater e = absurd (not_false_and_true e refl)
+
+pub tested_other : (o : Ordering) {b : Bool} → b ≡ is_ne o → b ≡ true → ordering_index o ≡ 1 → ⊥
+tested_other o {b} q t e = not_false_and_true (subst (λ (a : Ordering). is_ne a ≡ false) (sym (index_equal o e)) refl) (sym q ∙ t)
 
 pub ordered_equal : {xs xs' ys ys' : List ℕ} {r : ℕ} → xs ≡ xs' → ys ≡ ys' → Ordered xs ys r → Ordered xs' ys' r
 ordered_equal p q o = rw (sym p, sym q) o

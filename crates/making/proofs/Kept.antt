@@ -11,8 +11,8 @@ use Rattle.table.specs.Layout.{Lengths, Store}
 use Rattle.table.specs.Held.{node_at, held}
 use Rattle.table.proofs.Promises.{counts_what_is_held, fits_its_room}
 use Rattle.making.proofs.Frames.{Agree, held_agrees}
-use Rattle.making.specs.declared.nodes.Used.{Used}
-use Rattle.making.specs.Outcome.{Lent, Stays, TakenBack, table_of}
+use Rattle.table.specs.declared.lent.Used.{Used}
+use Rattle.making.specs.Outcome.{Lent, Stays, table_of}
 
 -- Only lengths are allowed or not.
 pub allowed_same : {a b c d a' b' c' d' : ℕ} → Lengths a b c d → a' ≡ a → b' ≡ b → c' ≡ c → d' ≡ d → Lengths a' b' c' d'
@@ -62,12 +62,3 @@ module _ {h h' : Used} {st : Store} {index : List ℕ} {st' : Store} (l : Lent h
   -- so the new table continues the old.
   pub stays_continues : Continues (table_of h st) (table_of h' st')
   stays_continues = subst (λ (t : Table). Continues t (table_of h' st')) held_still (longer st' h.nodes h'.nodes s.nodes_more)
-
-module _ {u w : ℕ} {h i j : Used} {st : Store} {st' : Store} {index' : List ℕ} {st'' : Store} {index'' : List ℕ} where
-  -- Taking back goes on where it stopped.
-  pub taken_on : TakenBack u h st i st' index' → TakenBack w i st' j st'' index'' → TakenBack w h st j st'' index''
-  taken_on a b = record { lent = b.lent; used_is = b.used_is; stays = stays_trans b.stays a.stays }
-
-module _ {u w : ℕ} {h j : Used} {st : Store} {st' : Store} {index' : List ℕ} where
-  pub taken_to : TakenBack u h st j st' index' → j.nodes ≡ w → TakenBack w h st j st' index'
-  taken_to a e = record { lent = a.lent; used_is = e; stays = a.stays }

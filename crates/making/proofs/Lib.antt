@@ -7,7 +7,6 @@ pub mod Walked
 pub mod Finding
 pub mod Slots
 pub mod Merged
-pub mod Stores
 pub mod Stored
 pub mod Spliced
 pub mod Two
@@ -18,4 +17,6 @@ pub mod Kept
 pub mod Taken
 pub mod Popped
 pub mod Adding
+pub mod Answered
+pub mod Same
 pub mod Creating

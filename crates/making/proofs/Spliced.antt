@@ -8,15 +8,10 @@ use lib.Seq.{get_or-set_same, get_or-set_other}
 use Rattle.chains.specs.Row.{words, from, Stored}
 use Rattle.chains.proofs.Stores.{set_back, stores, stores_stored}
 use Rattle.making.specs.Storing.{IndexPut}
-use Rattle.making.specs.Growing.{NodeIn}
 
 back_some : (l : List ℕ) (r q y : ℕ) → 0 < q → set_back l r q y ≡ set l (r * 2 + (q - 1)) y
 back_some l r zero y h = absurd (omega arith)
 back_some l r (suc m) y h = let e : m ≡ suc m - 1 = omega arith in subst (λ (k : ℕ). set l (r * 2 + m) y ≡ set l (r * 2 + k) y) e refl
-
-back_none : (l : List ℕ) (r q y : ℕ) → q ≤ 0 → set_back l r q y ≡ l
-back_none l r zero y h = refl
-back_none l r (suc m) y h = absurd (omega arith)
 
 module _ (index : List ℕ) (r n b p q x y v w h : ℕ) (long : length index ≡ r * 4) (b_lt : b < r) (n-lt : n < r) (p-le : p ≤ n) (q-le : q ≤ n) where
   -- the hash word first
@@ -75,11 +70,3 @@ module _ (index : List ℕ) (r n b p q x y v w h : ℕ) (long : length index ≡
     pub spliced_some : 0 < q → IndexPut r n b p q x y v w h index (set (three at) (r * 2 + (q - 1)) y)
     unfolding all
     spliced_some g = subst (λ (k : ℕ). IndexPut r n b p q x y v w h index (set (three k) (r * 2 + (q - 1)) y)) (sym is) (subst (IndexPut r n b p q x y v w h index) (back_some (three (from r b p)) r q y g) put)
-
-    pub spliced_none : q ≤ 0 → IndexPut r n b p q x y v w h index (three at)
-    unfolding all
-    spliced_none g = subst (λ (k : ℕ). IndexPut r n b p q x y v w h index (three k)) (sym is) (subst (IndexPut r n b p q x y v w h index) (back_none (three (from r b p)) r q y g) put)
-
--- A node that comes in, by other names of its word and its bucket.
-pub node_in : {r n b c p q x h : ℕ} {index index' : List ℕ} → x ≡ suc n → b ≡ c → IndexPut r n b p q x x q p h index index' → NodeIn r n c p q h index index'
-node_in {r} {n} {b} {c} {p} {q} {x} {h} {index} {index'} d e i = subst (λ (k : ℕ). NodeIn r n k p q h index index') e (subst (λ (k : ℕ). IndexPut r n b p q k k q p h index index') d i)

@@ -15,7 +15,7 @@ use Rattle.table.specs.Layout.{kid_at, cut_at, room, start, Lengths, Store}
 use Rattle.table.specs.Lent.{SoundLent}
 use Rattle.table.proofs.Laws.{lt_or_le, not_false_and_true}
 use Rattle.table.proofs.Determined.{same_store, same_index}
-use Rattle.making.specs.declared.nodes.Used.{Used}
+use Rattle.table.specs.declared.lent.Used.{Used}
 use Rattle.making.specs.Outcome.{Lent, Stays, Outcome, Untouched, TakenBack}
 
 -- the lengths of the cuts and of the index follow from those of the records and the children

@@ -7,7 +7,6 @@ use Prim.Native.Nat.{ℕ, suc, ◌+◌, ◌-◌, ◌≤◌, ◌<◌}
 use native.Mathlib.Omega.{arith}
 use lib.ListN.{length, get_or, set, replicate, length-set, length-replicate}
 use lib.Seq.{get_or-set_same, get_or-set_other}
-use lib.IntN.{ℤ, pos}
 use lib.Dec.{ltb}
 use borrow.Author.Tests.{le-ltb}
 use Rattle.ids.specs.Id.{sign, under}
@@ -20,23 +19,17 @@ use Rattle.algebra.specs.Making.{settle}
 use Rattle.algebra.specs.Overlay.{merge}
 use Rattle.algebra.proofs.Overlays.{join_same, join_other, reduced_merge, each_merge}
 use Rattle.table.specs.Layout.{room, Store}
-use Rattle.table.specs.Indexed.{mix}
 use Rattle.table.specs.Lent.{SoundLent}
-use Rattle.table.proofs.Laws.{lt_or_le, mix_at_equal}
+use Rattle.table.proofs.Laws.{lt_or_le}
 use Rattle.making.specs.declared.edges.Edge.{Edge}
 use Rattle.making.specs.declared.edges.Edges as built
-use Rattle.making.specs.Building.{Building, none, child_in, cut_in, key_in, pieces_of, zero_cut, hash_in, two_list, two_of}
+use Rattle.making.specs.Building.{Building, none, child_in, cut_in, pieces_of, zero_cut, hash_in, two_list, two_of}
 use Rattle.making.specs.declared.chain.Front.{Front}
 use Rattle.making.specs.declared.chain.Spot.{Spot}
 use Rattle.making.specs.Seeking.{rest_at, rest_in, front_of, Sought, Seeks, Finds}
-use Rattle.making.specs.Storing.{stored_cut, EdgesWritten, EdgesPut}
 use Rattle.making.specs.Outcome.{Buildable, create_pair}
-use Rattle.making.proofs.Hashing.{key_is, key_small, key_none, hash_none, hash_next}
 use Rattle.making.proofs.Fronts.{front_in, front_in_lem, run_ends}
 use Rattle.making.proofs.Finding.{find_none, find_same}
-use Rattle.making.proofs.Stores.{written_none, written_next}
-use Rattle.making.proofs.Stored.{last_cut}
-use Rattle.making.proofs.Arrays.{cut_small}
 
 module _ (a b : Edge) where
   abbrev blank : List Edge
@@ -48,7 +41,7 @@ module _ (a b : Edge) where
   sized : length blank ≡ most_edges
   sized = length-replicate most_edges none
 
-  slot_first : get_or (two_of a b).list 0 none ≡ a
+  pub slot_first : get_or (two_of a b).list 0 none ≡ a
   unfolding two_list
   slot_first = get_or-set_other one 1 0 b none (λ q. omega arith) ∙ get_or-set_same blank 0 a none (omega (arith, sized))
 
@@ -56,14 +49,11 @@ module _ (a b : Edge) where
   unfolding two_list
   slot_second = get_or-set_same one 1 b none (simp length-set (omega (arith, sized)))
 
+  pub slot_other : (j : ℕ) → j ≡ 1 → get_or (two_of a b).list j none ≡ b
+  slot_other j e = rw e slot_second
+
   pub two_lead : child_in (two_of a b) 0 ≡ a.child.0
   two_lead = ap (λ (x : Edge). x.child.0) slot_first
-
-  two_other : child_in (two_of a b) 1 ≡ b.child.0
-  two_other = ap (λ (x : Edge). x.child.0) slot_second
-
-  two_cut : cut_in (two_of a b) 0 ≡ a.cut
-  two_cut = ap (λ (x : Edge). x.cut) slot_first
 
   two_building : Building (two_of a b)
   unfolding two_list
@@ -77,35 +67,10 @@ module _ (a b : Edge) where
   pub two_buildable : (t : Table) {v : ℕ} {ps : Pieces ℕ} → ps ≡ cut a.child.0 a.cut (last b.child.0) → v < variables → Reduced 0 (top_of v) ps → Each (Child t (suc v)) ps → Buildable t v (two_of a b)
   two_buildable t {v} e known r k = record { building = two_building; known = known; reduced = subst (Reduced 0 (top_of v)) (e ∙ sym two_pieces) r; kids = subst (Each (Child t (suc v))) (e ∙ sym two_pieces) k }
 
-  -- The cut of the first is one that a table can store.
-  pub two_cut_small : (t : Table) (v : ℕ) → Buildable t v (two_of a b) → a.cut < 8589934593
-  two_cut_small t v k = omega (arith, two_cut, cut_small v (two_of a b) k.reduced 0 (omega arith))
-
-  two_key : (v : ℕ) → cond (is_range v && ltb (0 + 1) 2) a.cut zero_cut ≡ key_in v (two_of a b) 0
-  two_key v = ap (λ (i : ℕ). cond (is_range v && ltb (0 + 1) 2) i zero_cut) (sym two_cut) ∙ key_is v 0 (two_of a b)
-
-  pub two_key_small : (v : ℕ) {k : ℕ} → a.cut < 8589934593 → k ≡ cond (is_range v && ltb (0 + 1) 2) a.cut zero_cut → k < 8589934593
-  two_key_small v l e = let d = e ∙ two_key v in omega (arith, d, key_small v 0 (two_of a b) (λ j. omega (arith, two_cut)))
-
-  -- Their hash,
-  pub two_hash : (v : ℕ) → v < 4294967296 → {x y k p q : ℕ} → x ≡ under (sign a.child.0) a.child.0 → k ≡ cond (is_range v && ltb (0 + 1) 2) a.cut zero_cut → p ≡ mix v x k → y ≡ under (sign a.child.0) b.child.0 → q ≡ mix p y zero_cut → q ≡ hash_in v (sign a.child.0) (two_of a b) 2
-  two_hash v small c d e f g =
-      let s = sign a.child.0 in
-      let es = two_of a b in
-      g ∙ (mix_at_equal (e ∙ (mix_at_equal (sym (hash_none v s es small)) (c ∙ ap (under s) (sym two_lead)) (d ∙ two_key v) ∙ sym (hash_next v s es 0))) (f ∙ ap (under s) (sym two_other)) (sym (key_none v 1 es (omega arith))) ∙ sym (hash_next v s es 1))
-
-  -- their front,
+  -- Their front.
   pub two_front : (v : ℕ) {f : Front} → front_of f ≡ (v ∷ (2 ∷ (under (sign a.child.0) a.child.0 ∷ (cond (is_range v && ltb (0 + 1) 2) a.cut zero_cut ∷ (under (sign a.child.0) b.child.0 ∷ (cond (is_range v && ltb (1 + 1) 2) b.cut zero_cut ∷ [])))))) → front_of f ≡ front_in v (sign a.child.0) (two_of a b)
-  two_front v e = front_in_lem v (sign a.child.0) (two_of a b) (e ∙ ap₂ (λ (x y : Edge). v ∷ (2 ∷ (under (sign a.child.0) x.child.0 ∷ (cond (is_range v && ltb (0 + 1) 2) x.cut zero_cut ∷ (under (sign a.child.0) y.child.0 ∷ (cond (is_range v && ltb (1 + 1) 2) y.cut zero_cut ∷ [])))))) (sym slot_first) (sym slot_second))
-
-  -- and themselves as they are written.
-  pub two_written : {children : List ℕ} {cuts : List ℤ} {e x y : ℕ} {z w : ℤ} (v : ℕ) → e + 2 ≤ length children → length cuts ≡ length children → x ≡ under (sign a.child.0) a.child.0 → y ≡ under (sign a.child.0) b.child.0 → z ≡ stored_cut v 0 2 a.cut → w ≡ pos 0
-      → EdgesPut children cuts e v (sign a.child.0) (two_of a b) (set (set children e x) (e + 1) y) (set (set cuts e z) (e + 1) w)
-  two_written {children} {cuts} {e} {x} {y} {z} {w} v l k c d f g = written_next first (omega arith) (omega arith) y w (d ∙ ap (under (sign a.child.0)) (sym two_other)) (g ∙ sym (last_cut v 1 2 (cut_in (two_of a b) 1) (omega arith)))
-    where
-      first : EdgesWritten children cuts e 1 (λ j. under (sign a.child.0) (child_in (two_of a b) j)) (λ j. stored_cut v j 2 (cut_in (two_of a b) j)) (set children e x) (set cuts e z)
-      first = let n : e + 0 ≡ e = omega arith in subst (λ (i : ℕ). EdgesWritten children cuts e 1 (λ j. under (sign a.child.0) (child_in (two_of a b) j)) (λ j. stored_cut v j 2 (cut_in (two_of a b) j)) (set children i x) (set cuts i z)) n
-          (written_next (written_none children cuts e _ _) (omega arith) (omega arith) x z (c ∙ ap (under (sign a.child.0)) (sym two_lead)) (f ∙ ap (stored_cut v 0 2) (sym two_cut)))
+  unfolding two_list
+  two_front v e = front_in_lem v (sign a.child.0) (two_of a b) (rw (slot_first, slot_second) e)
 
   -- A search for the node finds it or its place: no other edges are left to compare.
   pub two_finds : {st : Store} {index : List ℕ} {u h : ℕ} (v : ℕ) {f : Front} {r : Spot} → SoundLent st index u → 1 ≤ room st.nodes → Reduced 0 (top_of v) (pieces_of (two_of a b)) → h ≡ hash_in v (sign a.child.0) (two_of a b) 2 → front_of f ≡ front_in v (sign a.child.0) (two_of a b)

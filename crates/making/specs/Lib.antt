@@ -3,4 +3,6 @@ pub mod Building
 pub mod Seeking
 pub mod Storing
 pub mod Growing
+pub mod Made
 pub mod Outcome
+pub mod Working

@@ -1,16 +1,16 @@
 // A node under construction: an array by value of 64 edge structs with a count.
-ghost use Rattle.std.specs.Prelude.{◌≡◌, cond, ◌&&◌, ℕ, ◌+◌, ◌-◌, ◌<◌, ◌≤◌, ltb, length};
+ghost use Rattle.std.specs.Prelude.{◌≡◌, cond, ◌&&◌, ℕ, ◌+◌, ◌-◌, ◌<◌, ◌≤◌, ltb, length, get_or};
 ghost use Rattle.ids.specs.Id.{sign};
 ghost use Rattle.diagram.specs.Table.{variables, is_range, most_edges};
 ghost use Rattle.algebra.specs.Overlay.{merge};
-ghost use Rattle.making.specs.Building.{Building, cut_in, pieces_of, zero_cut, hash_in, two_of};
+ghost use Rattle.making.specs.Building.{Building, none, cut_in, pieces_of, zero_cut, hash_in, two_of};
+ghost use Rattle.making.specs.declared.edges.Edges as built;
 ghost use Rattle.making.specs.Storing.{stored_cut};
 
 use ids::NodeId;
 use ranges::places::{ZERO, place_at};
 use table::index::mixed;
 use table::limits::FIRST_BOOLEAN;
-use table::words::wide;
 
 // An edge goes up to its cut, the first position on its right. `spare` is 0 and nothing looks at it: it fills the struct to 16 bytes, and
 // an array without holes is set and copied as one block.
@@ -21,6 +21,32 @@ pub struct Edge {
     pub spare: u32,
 }
 
+impl Edge {
+    pub fn new(cut: usize, child: NodeId) -> Edge
+        ensures { result ≡ record { cut = cut; child = child; spare = 0 } }
+    {
+        Edge {
+            cut,
+            child,
+            spare: 0,
+        }
+    }
+}
+
+// Edges of a node under construction, however they are held.
+pub trait EdgeList {
+    ghost edges: { Self → built.Edges };
+
+    fn count(&self) -> usize
+        ensures { result ≡ (edges self.now).len };
+
+    fn edge(&self, j: usize) -> Edge
+        requires { (Building (edges self.now)) × (j < (edges self.now).len) }
+        ensures { result ≡ get_or (edges self.now).list j none };
+}
+
+// The first `len` of 64.
+// An array with its length, since no call allocates. `Building` is no ghost field: while edges are gathered there may be none.
 #[derive(Clone, Copy)]
 pub struct Edges {
     pub list: [Edge; 64],
@@ -31,13 +57,42 @@ impl Edges {
     pub fn new() -> Edges
         ensures { (length result.list ≡ most_edges) × (result.len ≡ 0) }
     {
-        let e = Edge {
-            cut: 0,
-            child: NodeId(0),
-            spare: 0,
-        };
-        let list = [e; 64];
-        Edges { list, len: 0 }
+        Edges {
+            list: [Edge::new(0, NodeId(0)); 64],
+            len: 0,
+        }
+    }
+}
+
+impl EdgeList for Edges {
+    ghost edges = { λ es. es };
+
+    fn count(&self) -> usize {
+        self.len
+    }
+
+    fn edge(&self, j: usize) -> Edge {
+        self.list[j]
+    }
+}
+
+// Two alone, as most nodes have them: no array is made for these.
+#[derive(Clone, Copy)]
+pub struct TwoEdges {
+    pub first: Edge,
+    pub second: Edge,
+}
+
+impl EdgeList for TwoEdges {
+    ghost edges = { λ es. two_of es.first es.second };
+
+    fn count(&self) -> usize {
+        2
+    }
+
+    #[tactic(auto, using(crate::proofs::Two::slot_first, crate::proofs::Two::slot_other))]
+    fn edge(&self, j: usize) -> Edge {
+        if j == 0 { self.first } else { self.second }
     }
 }
 
@@ -49,7 +104,7 @@ pub fn slot_for(len: usize, last: NodeId, id: NodeId) -> usize
     if len == 0 {
         return 0;
     }
-    if last.0 == id.0 {
+    if last == id {
         // Its slot is taken again: with the cut of the new edge the last one reaches as far as both.
         return len - 1;
     }
@@ -62,23 +117,15 @@ pub fn merged(es: Edges) -> Edges
     requires { Building es }
     ensures { (Building result) × (pieces_of result ≡ merge (pieces_of es)) }
 {
-    let count = es.len;
     let mut out = es;
     let mut last = NodeId::FALSE;
     let mut len = 0;
-    let mut j = 0;
-    while j < count {
+    for j in 0..out.len {
         let e = out.list[j];
-        let c = e.child;
-        let n = slot_for(len, last, c);
-        out.list[n] = Edge {
-            cut: e.cut,
-            child: c,
-            spare: 0,
-        };
-        last = c;
+        let n = slot_for(len, last, e.child);
+        out.list[n] = Edge::new(e.cut, e.child);
+        last = e.child;
         len = n + 1;
-        j += 1;
     }
     out.len = len;
     out
@@ -98,9 +145,10 @@ pub fn key_of(v: usize, j: usize, count: usize, cut: usize) -> usize
     ensures { result ≡ cond (is_range v && ltb (j + 1) count) cut zero_cut }
 {
     if has_cut(v, j, count) {
-        return cut;
+        cut
+    } else {
+        ZERO as usize
     }
-    ZERO as usize
 }
 
 // The stored cut of edge j.
@@ -109,38 +157,24 @@ pub fn stored_cut(v: usize, j: usize, count: usize, cut: usize) -> i64
     ensures { result ≡ stored_cut v j count cut }
 {
     if has_cut(v, j, count) {
-        return place_at(cut as u64);
+        place_at(cut as u64)
+    } else {
+        0
     }
-    0
 }
 
 // The hash of a node under construction, its children seen under the sign of `lead`.
-pub fn hash_edges(v: usize, lead: NodeId, es: &Edges) -> usize
-    requires { (Building es.now) × (v < variables) × ((j : ℕ) → j + 1 < es.now.len → cut_in es.now j < 8589934593) }
-    ensures { (result ≡ hash_in v (sign lead.0) es.now es.now.len) × (result < 4294967296) }
+pub fn hash_edges<E: EdgeList>(v: usize, lead: NodeId, es: &E) -> usize
+    requires { (Building (E.edges es.now)) × (v < variables) × ((j : ℕ) → j + 1 < (E.edges es.now).len → cut_in (E.edges es.now) j < 8589934593) }
+    ensures { (result ≡ hash_in v (sign lead.0) (E.edges es.now) (E.edges es.now).len) × (result < 4294967296) }
 {
-    let n = es.len;
+    let count = es.count();
     let mut h = v;
-    let mut j = 0;
-    while j < n {
-        let e = es.list[j];
+    for j in 0..count {
+        let e = es.edge(j);
         // As it would be stored, so that a node and its flipped twin have one hash, and are looked for in one bucket.
         let c = e.child.negate(lead);
-        h = mixed(h, wide(c.0), key_of(v, j, n, e.cut));
-        j += 1;
+        h = mixed(h, c.0 as usize, key_of(v, j, count, e.cut));
     }
     h
-}
-
-// The same of a node of two edges, from these.
-pub fn hash_two(v: usize, a: Edge, b: Edge) -> usize
-    requires { (v < variables) × (a.cut < 8589934593) }
-    ensures { (result ≡ hash_in v (sign a.child.0) (two_of a b) 2) × (result < 4294967296) }
-{
-    let lead = a.child;
-    let x = lead.negate(lead);
-    let y = b.child.negate(lead);
-    let h = mixed(v, wide(x.0), key_of(v, 0, 2, a.cut));
-    // The last edge has no cut.
-    mixed(h, wide(y.0), ZERO as usize)
 }

@@ -5,4 +5,6 @@
 pub mod chain;
 pub mod edges;
 pub mod nodes;
+pub mod room;
 pub mod undo;
+pub mod used;

@@ -1,82 +1,54 @@
 // Node making: finding a node, adding it, and the calls that do both.
-ghost use Rattle.std.specs.Prelude.{◌≡◌, true, ℕ, suc, ◌+◌, ◌*◌, ◌/◌, ◌<◌, ◌≤◌, length};
+ghost use Rattle.std.specs.Prelude.{◌≡◌, ℕ, suc, ◌+◌, ◌*◌, ◌/◌, ◌<◌, ◌≤◌, length};
 ghost use Rattle.ids.specs.Id.{sign, under};
 ghost use Rattle.diagram.specs.Table.{variables, first_boolean, most_edges};
 ghost use Rattle.diagram.specs.Sound.{Child};
 ghost use Rattle.algebra.specs.Making.{settle as settled, create_node};
-ghost use Rattle.table.specs.Deciding.{Decides};
-ghost use Rattle.table.specs.Layout.{most_nodes, most_edge_room, room, store};
+ghost use Rattle.std.specs.Prelude.{Decides};
+ghost use Rattle.table.specs.Layout.{most_nodes, most_edge_room, room};
 ghost use Rattle.making.specs.Building.{Building, child_in, cut_in, node_of, hash_in, two_of, pieces_of};
 ghost use Rattle.making.specs.Growing.{NodeIn};
 ghost use Rattle.making.specs.Seeking.{Finds};
 ghost use Rattle.making.specs.Storing.{EdgesPut, RecordPut};
-ghost use Rattle.making.specs.Outcome.{Lent, Creates, Buildable, Mergeable, Added, create_pair, table_of};
+ghost use Rattle.making.specs.Outcome.{Buildable, Mergeable, Added, create_pair};
+ghost use Rattle.making.specs.Working.{Sound, stored, table_in, SameSlices, MakesNode};
 
 use super::chain::{Spot, find, front_of, seek, splice};
-use super::edges::{Edge, Edges, hash_edges, hash_two, merged, stored_cut};
+use super::edges::{Edge, EdgeList, Edges, TwoEdges, hash_edges, merged, stored_cut};
+use super::room::NoRoom;
+use super::used::UsedTable;
 use ids::NodeId;
 use table::index::scaled;
+use table::lent::Used;
 use table::limits::RECORD_WORDS;
 
-// How much of a lent table is used. Its rooms are the lengths of its slices.
-#[derive(Clone, Copy)]
-pub struct Used {
-    pub nodes: usize,
-    pub edges: usize,
-}
-
-// What making gives: an id, or no room; and how much is used now.
-#[derive(Clone, Copy)]
-pub struct Made {
-    pub ok: bool,
-    pub id: NodeId,
-    pub used: Used,
-}
-
-// The answer with a node that the table has. Where the flipped node was stored, the id gets the sign that the node lost.
-fn known(at: usize, lead: NodeId, used: Used) -> Made
+// The id of a node that the table has. Where the flipped node was stored, the id gets the sign that the node lost.
+fn known(at: usize, lead: NodeId) -> NodeId
     requires { at ≤ most_nodes }
-    ensures { (result.ok ≡ true) × (result.id.0 ≡ under (sign lead.0) (at * 2)) × (result.used ≡ used) }
+    ensures { result.0 ≡ under (sign lead.0) (at * 2) }
 {
-    Made {
-        ok: true,
-        id: NodeId(at as u32 * 2).negate(lead),
-        used,
-    }
+    NodeId(at as u32 * 2).negate(lead)
 }
 
 // Writes the edges of a node from edge e on.
-fn put_edges(children: &mut [u32], cuts: &mut [i64], e: usize, v: usize, lead: NodeId, es: &Edges)
-    requires { (Building es.now) × (e + es.now.len ≤ length children.old) × (length cuts.old ≡ length children.old) × ((j : ℕ) → j + 1 < es.now.len → cut_in es.now j < 8589934593) }
-    ensures { EdgesPut children.old cuts.old e v (sign lead.0) es.now children.new cuts.new }
+fn put_edges<E: EdgeList>(
+    children: &mut [u32],
+    cuts: &mut [i64],
+    e: usize,
+    v: usize,
+    lead: NodeId,
+    es: &E,
+)
+    requires { (Building (E.edges es.now)) × (e + (E.edges es.now).len ≤ length children.old) × (length cuts.old ≡ length children.old) × ((j : ℕ) → j + 1 < (E.edges es.now).len → cut_in (E.edges es.now) j < 8589934593) }
+    ensures { EdgesPut children.old cuts.old e v (sign lead.0) (E.edges es.now) children.new cuts.new }
 {
-    let count = es.len;
-    let mut j = 0;
-    while j < count {
-        let edge = es.list[j];
+    let count = es.count();
+    for j in 0..count {
+        let edge = es.edge(j);
         // Here the flip is made: seen under the sign of the first child, the first child itself is plain.
-        let c = edge.child.negate(lead);
-        children[e + j] = c.0;
-        let z = stored_cut(v, j, count, edge.cut);
-        cuts[e + j] = z;
-        j += 1;
+        children[e + j] = edge.child.negate(lead).0;
+        cuts[e + j] = stored_cut(v, j, count, edge.cut);
     }
-}
-
-// Writes the two edges of a node from edge e on.
-fn put_two(children: &mut [u32], cuts: &mut [i64], e: usize, v: usize, a: Edge, b: Edge)
-    requires { (e + 2 ≤ length children.old) × (length cuts.old ≡ length children.old) × (a.cut < 8589934593) }
-    ensures { EdgesPut children.old cuts.old e v (sign a.child.0) (two_of a b) children.new cuts.new }
-{
-    let lead = a.child;
-    let x = lead.negate(lead);
-    let y = b.child.negate(lead);
-    let z = stored_cut(v, 0, 2, a.cut);
-    children[e] = x.0;
-    cuts[e] = z;
-    children[e + 1] = y.0;
-    // The last edge has no cut.
-    cuts[e + 1] = 0;
 }
 
 // Writes record n; its fourth word is 0 and stays so.
@@ -90,6 +62,7 @@ pub fn put_record(nodes: &mut [u32], n: usize, v: u32, count: u32, first: u32)
 }
 
 // The record and the index of a node whose edges are written behind the used ones, at the spot that was found for it.
+// Two slices, and no table: so the contract says that children and cuts stay.
 fn enter(
     nodes: &mut [u32],
     index: &mut [u32],
@@ -126,236 +99,138 @@ fn enter(
     }
 }
 
-// "Or add it as the next number", where there is room for it.
-fn add(
-    nodes: &mut [u32],
-    children: &mut [u32],
-    cuts: &mut [i64],
-    index: &mut [u32],
-    used: Used,
-    v: usize,
-    lead: NodeId,
-    es: &Edges,
-    h: usize,
-    s: Spot,
-) -> Used
-    requires { (Lent used (store nodes.old children.old cuts.old) index.old) × (Buildable (table_of used (store nodes.old children.old cuts.old)) v es.now) × (2 ≤ es.now.len) × (lead.0 ≡ child_in es.now 0) × (h ≡ hash_in v (sign lead.0) es.now es.now.len) × (Finds (store nodes.old children.old cuts.old) used.nodes v (sign lead.0) es.now s) × (s.at ≡ 0) × (used.nodes < room nodes.old) × (used.edges + es.now.len ≤ length children.old) }
-    ensures { Added used (node_of v (sign lead.0) es.now) result (store nodes.old children.old cuts.old) (store nodes.new children.new cuts.new) index.new }
+// "Or add it as the next number", where there is room for it. Its number is one less than the nodes that are used then.
+fn add<E: EdgeList>(table: &mut UsedTable, v: usize, lead: NodeId, es: &E, h: usize, s: Spot)
+    requires { (Sound table.old) × (Buildable (table_in table.old) v (E.edges es.now)) × (2 ≤ (E.edges es.now).len) × (lead.0 ≡ child_in (E.edges es.now) 0) × (h ≡ hash_in v (sign lead.0) (E.edges es.now) (E.edges es.now).len) × (Finds (stored table.old) table.old.used.nodes v (sign lead.0) (E.edges es.now) s) × (s.at ≡ 0) × (table.old.used.nodes < room table.old.nodes.now) × (table.old.used.edges + (E.edges es.now).len ≤ length table.old.children.now) }
+    ensures added { Added table.old.used (node_of v (sign lead.0) (E.edges es.now)) table.new.used (stored table.old) (stored table.new) table.new.index.now }
+    ensures same { SameSlices table.old table.new }
 {
-    put_edges(children, cuts, used.edges, v, lead, es);
-    enter(nodes, index, used, v, es.len, h, s)
-}
-
-// The same for a node of two edges.
-fn add_two(
-    nodes: &mut [u32],
-    children: &mut [u32],
-    cuts: &mut [i64],
-    index: &mut [u32],
-    used: Used,
-    v: usize,
-    a: Edge,
-    b: Edge,
-    h: usize,
-    s: Spot,
-) -> Used
-    requires { (Lent used (store nodes.old children.old cuts.old) index.old) × (Buildable (table_of used (store nodes.old children.old cuts.old)) v (two_of a b)) × (h ≡ hash_in v (sign a.child.0) (two_of a b) 2) × (Finds (store nodes.old children.old cuts.old) used.nodes v (sign a.child.0) (two_of a b) s) × (s.at ≡ 0) × (used.nodes < room nodes.old) × (used.edges + 2 ≤ length children.old) }
-    ensures { Added used (node_of v (sign a.child.0) (two_of a b)) result (store nodes.old children.old cuts.old) (store nodes.new children.new cuts.new) index.new }
-{
-    put_two(children, cuts, used.edges, v, a, b);
-    enter(nodes, index, used, v, 2, h, s)
+    put_edges(table.children, table.cuts, table.used.edges, v, lead, es);
+    table.used = enter(table.nodes, table.index, table.used, v, es.count(), h, s);
 }
 
 // Whether there is room for one node more, with `count` edges.
 fn has_room(rooms: usize, span: usize, used: Used, count: usize) -> bool
     requires { (used.nodes ≤ rooms) × (rooms ≤ most_nodes) × (used.edges ≤ span) × (span ≤ most_edge_room) × (count ≤ most_edges) }
-    ensures { Decides ((used.nodes < rooms) × (used.edges + count ≤ span)) result }
+    ensures { Decides result ((used.nodes < rooms) × (used.edges + count ≤ span)) }
 {
-    if rooms < used.nodes + 1 {
-        return false;
-    }
-    if span < used.edges + count {
-        return false;
-    }
-    true
+    used.nodes < rooms && used.edges + count <= span
 }
 
 // "Or add it as the next number", where there is room for it: a node that is not in the table yet.
-pub fn extend(
-    nodes: &mut [u32],
-    children: &mut [u32],
-    cuts: &mut [i64],
-    index: &mut [u32],
-    used: Used,
+pub fn extend<E: EdgeList>(
+    table: &mut UsedTable,
     v: usize,
     lead: NodeId,
-    es: &Edges,
+    es: &E,
     h: usize,
     s: Spot,
-) -> Made
-    requires { (Lent used (store nodes.old children.old cuts.old) index.old) × (Buildable (table_of used (store nodes.old children.old cuts.old)) v es.now) × (2 ≤ es.now.len) × (lead.0 ≡ child_in es.now 0) × (h ≡ hash_in v (sign lead.0) es.now es.now.len) × (Finds (store nodes.old children.old cuts.old) used.nodes v (sign lead.0) es.now s) × (s.at ≡ 0) }
-    ensures { Creates used (settled (table_of used (store nodes.old children.old cuts.old)) v (pieces_of es.now)) result (store nodes.old children.old cuts.old) index.old (store nodes.new children.new cuts.new) index.new }
+) -> Result<NodeId, NoRoom>
+    requires { (Sound table.old) × (Buildable (table_in table.old) v (E.edges es.now)) × (2 ≤ (E.edges es.now).len) × (lead.0 ≡ child_in (E.edges es.now) 0) × (h ≡ hash_in v (sign lead.0) (E.edges es.now) (E.edges es.now).len) × (Finds (stored table.old) table.old.used.nodes v (sign lead.0) (E.edges es.now) s) × (s.at ≡ 0) }
+    ensures makes { MakesNode table.old (settled (table_in table.old) v (pieces_of (E.edges es.now))) result table.new }
+    ensures same { SameSlices table.old table.new }
 {
-    if !has_room(nodes.len() / RECORD_WORDS, children.len(), used, es.len) {
-        return Made {
-            ok: false,
-            id: NodeId::FALSE,
-            used,
-        };
+    let words = table.read();
+    if !has_room(
+        words.nodes.len() / RECORD_WORDS,
+        words.children.len(),
+        table.used,
+        es.count(),
+    ) {
+        return Err(NoRoom);
     }
-    let next = add(nodes, children, cuts, index, used, v, lead, es, h, s);
-    // Its number is one less than the nodes now used.
-    known(next.nodes, lead, next)
-}
-
-// The same for a node of two edges.
-fn extend_two(
-    nodes: &mut [u32],
-    children: &mut [u32],
-    cuts: &mut [i64],
-    index: &mut [u32],
-    used: Used,
-    v: usize,
-    a: Edge,
-    b: Edge,
-    h: usize,
-    s: Spot,
-) -> Made
-    requires { (Lent used (store nodes.old children.old cuts.old) index.old) × (Buildable (table_of used (store nodes.old children.old cuts.old)) v (two_of a b)) × (h ≡ hash_in v (sign a.child.0) (two_of a b) 2) × (Finds (store nodes.old children.old cuts.old) used.nodes v (sign a.child.0) (two_of a b) s) × (s.at ≡ 0) }
-    ensures { Creates used (settled (table_of used (store nodes.old children.old cuts.old)) v (pieces_of (two_of a b))) result (store nodes.old children.old cuts.old) index.old (store nodes.new children.new cuts.new) index.new }
-{
-    if !has_room(nodes.len() / RECORD_WORDS, children.len(), used, 2) {
-        return Made {
-            ok: false,
-            id: NodeId::FALSE,
-            used,
-        };
-    }
-    let next = add_two(nodes, children, cuts, index, used, v, a, b, h, s);
-    known(next.nodes, a.child, next)
+    add(table, v, lead, es, h, s);
+    Ok(known(table.used.nodes, lead))
 }
 
 // The id of variable v over two edges whose children differ, as thresholds and switches have them: what `settle` does, without an array of
 // edges. Two edges are all in the front, so the node is hashed, looked for and written from them alone.
-fn settle_two(
-    nodes: &mut [u32],
-    children: &mut [u32],
-    cuts: &mut [i64],
-    index: &mut [u32],
-    used: Used,
-    v: usize,
-    a: Edge,
-    b: Edge,
-) -> Made
-    requires { (Lent used (store nodes.old children.old cuts.old) index.old) × (Buildable (table_of used (store nodes.old children.old cuts.old)) v (two_of a b)) }
-    ensures { Creates used (settled (table_of used (store nodes.old children.old cuts.old)) v (pieces_of (two_of a b))) result (store nodes.old children.old cuts.old) index.old (store nodes.new children.new cuts.new) index.new }
+fn settle_two(table: &mut UsedTable, v: usize, es: &TwoEdges) -> Result<NodeId, NoRoom>
+    requires { (Sound table.old) × (Buildable (table_in table.old) v (two_of es.now.first es.now.second)) }
+    ensures makes { MakesNode table.old (settled (table_in table.old) v (pieces_of (two_of es.now.first es.now.second))) result table.new }
+    ensures same { SameSlices table.old table.new }
 {
-    let lead = a.child;
-    let h = hash_two(v, a, b);
+    let lead = es.first.child;
+    let h = hash_edges(v, lead, es);
     let s = seek(
-        nodes,
-        children,
-        cuts,
-        index,
+        &table.read(),
         h,
-        front_of(v, lead, 2, a, b),
+        front_of(v, lead, 2, es.first, es.second),
         0,
     );
     if 0 < s.at {
-        return known(s.at, lead, used);
+        return Ok(known(s.at, lead));
     }
-    extend_two(nodes, children, cuts, index, used, v, a, b, h, s)
+    extend(table, v, lead, es, h, s)
 }
 
 // The id of variable v over merged edges: "drop the node if all children agree, else find it or add it as the next number". Where there is
 // no room for it, nothing is written.
-pub fn settle(
-    nodes: &mut [u32],
-    children: &mut [u32],
-    cuts: &mut [i64],
-    index: &mut [u32],
-    used: Used,
-    v: usize,
-    es: Edges,
-) -> Made
-    requires { (Lent used (store nodes.old children.old cuts.old) index.old) × (Buildable (table_of used (store nodes.old children.old cuts.old)) v es) }
-    ensures { Creates used (settled (table_of used (store nodes.old children.old cuts.old)) v (pieces_of es)) result (store nodes.old children.old cuts.old) index.old (store nodes.new children.new cuts.new) index.new }
+pub fn settle(table: &mut UsedTable, v: usize, es: Edges) -> Result<NodeId, NoRoom>
+    requires { (Sound table.old) × (Buildable (table_in table.old) v es) }
+    ensures makes { MakesNode table.old (settled (table_in table.old) v (pieces_of es)) result table.new }
+    ensures same { SameSlices table.old table.new }
 {
     // Of merged edges all children agree exactly when one edge is left: the child stands for the node.
     let first = es.list[0];
     let lead = first.child;
     if es.len == 1 {
-        return Made {
-            ok: true,
-            id: lead,
-            used,
-        };
+        return Ok(lead);
     }
-    // Most nodes have two edges, and to hand the array on for them copies 1 KB each time.
+    // Most nodes have two edges.
     if es.len == 2 {
-        let second = es.list[1];
-        return settle_two(nodes, children, cuts, index, used, v, first, second);
+        return settle_two(
+            table,
+            v,
+            &TwoEdges {
+                first,
+                second: es.list[1],
+            },
+        );
     }
     // "Flip if the first child is complemented", since a node and its flipped twin would be two ids for one condition. No copy is made:
     // the node is hashed, compared and stored with each child seen under the sign of the first, and its id gets that sign.
     let h = hash_edges(v, lead, &es);
     // Looked for before room is asked for: a full table still answers with the nodes that it has (C16).
-    let s = find(nodes, children, cuts, index, v, lead, &es, h);
+    let s = find(&table.read(), v, lead, &es, h);
     if 0 < s.at {
-        return known(s.at, lead, used);
+        return Ok(known(s.at, lead));
     }
-    extend(nodes, children, cuts, index, used, v, lead, &es, h, s)
+    extend(table, v, lead, &es, h, s)
 }
 
 // Node making, from edges whose neighbours may still agree: "neighbouring edges with equal children are merged first". `create_node` of the
 // source, which does not merge, and so gives equal conditions two ids (docs/DIFFERENCES.md).
-pub fn create_node(
-    nodes: &mut [u32],
-    children: &mut [u32],
-    cuts: &mut [i64],
-    index: &mut [u32],
-    used: Used,
-    v: usize,
-    es: Edges,
-) -> Made
-    requires { (Lent used (store nodes.old children.old cuts.old) index.old) × (Mergeable (table_of used (store nodes.old children.old cuts.old)) v es) }
-    ensures { Creates used (create_node (table_of used (store nodes.old children.old cuts.old)) v (pieces_of es)) result (store nodes.old children.old cuts.old) index.old (store nodes.new children.new cuts.new) index.new }
+pub fn create_node(table: &mut UsedTable, v: usize, es: Edges) -> Result<NodeId, NoRoom>
+    requires { (Sound table.old) × (Mergeable (table_in table.old) v es) }
+    ensures makes { MakesNode table.old (create_node (table_in table.old) v (pieces_of es)) result table.new }
+    ensures same { SameSlices table.old table.new }
 {
-    settle(nodes, children, cuts, index, used, v, merged(es))
+    settle(table, v, merged(es))
 }
 
 // The same for a boolean variable, from its two children.
 pub fn create_pair(
-    nodes: &mut [u32],
-    children: &mut [u32],
-    cuts: &mut [i64],
-    index: &mut [u32],
-    used: Used,
+    table: &mut UsedTable,
     v: usize,
     high: NodeId,
     low: NodeId,
-) -> Made
-    requires { (Lent used (store nodes.old children.old cuts.old) index.old) × (first_boolean ≤ v) × (v < variables) × (Child (table_of used (store nodes.old children.old cuts.old)) (suc v) high.0) × (Child (table_of used (store nodes.old children.old cuts.old)) (suc v) low.0) }
-    ensures { Creates used (create_pair (table_of used (store nodes.old children.old cuts.old)) v high.0 low.0) result (store nodes.old children.old cuts.old) index.old (store nodes.new children.new cuts.new) index.new }
+) -> Result<NodeId, NoRoom>
+    requires { (Sound table.old) × (first_boolean ≤ v) × (v < variables) × (Child (table_in table.old) (suc v) high.0) × (Child (table_in table.old) (suc v) low.0) }
+    ensures makes { MakesNode table.old (create_pair (table_in table.old) v high.0 low.0) result table.new }
+    ensures same { SameSlices table.old table.new }
 {
     // "Drop the node if all children agree".
-    if high.0 == low.0 {
-        return Made {
-            ok: true,
-            id: high,
-            used,
-        };
+    if high == low {
+        return Ok(high);
     }
     // A boolean has two positions, 0 for yes and 1 for no, so the high edge ends before 1.
-    let a = Edge {
-        cut: 1,
-        child: high,
-        spare: 0,
-    };
-    let b = Edge {
-        cut: 0,
-        child: low,
-        spare: 0,
-    };
-    settle_two(nodes, children, cuts, index, used, v, a, b)
+    settle_two(
+        table,
+        v,
+        &TwoEdges {
+            first: Edge::new(1, high),
+            second: Edge::new(0, low),
+        },
+    )
 }

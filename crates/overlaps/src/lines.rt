@@ -1,234 +1,118 @@
 // The lines of the text: each declares a measure or a switch, or is a rule.
-use super::faults::{Fault, Limit, is_limit, show_fault};
-use super::names::{Sheet, empty_sheet, new_rule, new_variable, put_rule};
-use super::rules::{Partial, condition};
-use super::text::{Word, bytes_of, next_line, next_word, reads};
-use ids::NodeId;
+use super::faults::{Fault, Limit, Refused, Unreadable};
+use super::names::{Rule, Sheet, VariableKind};
+use super::store::Store;
+use super::text::{Lines, Words};
 use std::io;
-use std::num::{wrapping_add_u64, wrapping_add_usize};
-use table::limits::{FIRST_BOOLEAN, VARIABLES};
 
 // So many lines that cannot be read are shown. All are counted, and a limit is always shown.
 pub const MOST_SHOWN: u64 = 20;
 
-// The start of a rule's line: its name, and where the colon behind it ends. Or why it is none, and where.
+// How many lines could not be read, and whether a limit was hit, so that no more were.
 #[derive(Clone, Copy)]
-struct Head {
-    name: Word,
-    end: usize,
-    place: usize,
-    fault: Fault,
+pub struct Unread {
+    pub lines: u64,
+    pub at_limit: bool,
 }
 
-// A line that cannot be read is shown at once, and counted.
-fn refused(rt: &impl Print, text: &[u8], at: usize, fault: Fault, s: Sheet) -> io::Result<Sheet> {
-    let mut s = s;
-    let limit = is_limit(fault);
-    if limit || s.faults < MOST_SHOWN {
-        show_fault(rt, text, s.line, at, fault)?;
+impl<'a> Sheet<'a> {
+    // `NAME` of a new variable, and nothing behind it: the next variable of its kind gets the name.
+    fn read_variable(
+        &mut self,
+        words: &mut Words<'a>,
+        kind: VariableKind,
+    ) -> Result<(), Refused<'a>> {
+        let word = words.next();
+        let name = self.new_variable(word).map_err(|why| why.at(word))?;
+        let stray = words.next();
+        if stray.is_some() {
+            return Err(Fault::StrayWord.at(stray));
+        }
+        let put = match kind {
+            VariableKind::Measure => self.measures.push(name, Limit::Measures),
+            VariableKind::Switch => self.switches.push(name, Limit::Switches),
+        };
+        put.map_err(|why| why.at(word))
     }
-    s.faults = wrapping_add_u64(s.faults, 1);
-    s.limited = limit;
-    Ok(s)
-}
 
-// `measure NAME` or `switch NAME`, from the name on: the next variable of its kind gets the name.
-fn read_variable(
-    rt: &impl Print,
-    text: &[u8],
-    at: usize,
-    switch: bool,
-    s: Sheet,
-) -> io::Result<Sheet> {
-    let mut s = s;
-    let mut names = s.variables;
-    let w = next_word(text, at);
-    let fault = new_variable(text, names, w);
-    let Fault::Nothing = fault else {
-        return refused(rt, text, w.start, fault, s);
-    };
-    let rest = next_word(text, w.end);
-    if !reads(text, rest, b"") {
-        return refused(rt, text, rest.start, Fault::StrayWord, s);
-    }
-    let mut v = s.next_measure;
-    let mut limit = FIRST_BOOLEAN;
-    let mut fault = Fault::Hit(Limit::Measures);
-    if switch {
-        v = s.next_switch;
-        limit = VARIABLES;
-        fault = Fault::Hit(Limit::Switches);
-    }
-    if v >= VARIABLES || v >= limit {
-        return refused(rt, text, w.start, fault, s);
-    }
-    names.words[v] = w;
-    s.variables = names;
-    if switch {
-        s.next_switch = v + 1;
-    } else {
-        s.next_measure = v + 1;
-    }
-    Ok(s)
-}
-
-// The sheet with one rule more.
-fn with_rule(
-    rt: &impl Print,
-    text: &[u8],
-    rules: &mut [usize],
-    s: Sheet,
-    w: Word,
-    id: NodeId,
-) -> io::Result<Sheet> {
-    let mut s = s;
-    let n = s.count;
-    if !put_rule(rules, n, w, id) {
-        return refused(rt, text, w.start, Fault::Hit(Limit::Rules), s);
-    }
-    s.count = wrapping_add_usize(n, 1);
-    let width = bytes_of(text, w).len();
-    if s.widest < width {
-        s.widest = width;
-    }
-    Ok(s)
-}
-
-// `rule NAME:`, from the name on.
-fn rule_head(text: &[u8], rules: &[usize], count: usize, at: usize) -> Head {
-    let name = next_word(text, at);
-    let colon = next_word(text, name.end);
-    let mut place = name.start;
-    let mut fault = new_rule(text, rules, count, name);
-    if let Fault::Nothing = fault {
-        if !reads(text, colon, b":") {
-            place = colon.start;
-            fault = Fault::NoColon;
+    // Which limit a condition has hit, where the kernel found no room for it: that of the table, where it has room in a table of its own, as
+    // far as it can be read, or else one of its own. What the table had is lost.
+    fn limit_of(&self, condition: Words<'a>, store: &mut Store<'_>) -> Limit {
+        let used = store.used();
+        store.empty();
+        match self.condition(condition, store) {
+            Err(refused) if refused.is_no_room() => Limit::Condition,
+            _ => Limit::Table(used),
         }
     }
-    Head {
-        name,
-        end: colon.end,
-        place,
-        fault,
-    }
-}
 
-// A rule whose condition was read, or why it was not. "No room" is shown later, when it is found out which limit that is.
-fn rule_read(
-    rt: &impl Print,
-    text: &[u8],
-    rules: &mut [usize],
-    s: Sheet,
-    h: Head,
-    c: Partial,
-) -> io::Result<Sheet> {
-    let mut s = s;
-    let name = h.name;
-    let fault = c.fault;
-    let id = c.any;
-    Ok(match fault {
-        Fault::Nothing => with_rule(rt, text, rules, s, name, id)?,
-        Fault::NoRoom => {
-            s.faults = wrapping_add_u64(s.faults, 1);
-            s.limited = true;
-            s.no_room = true;
-            s.last_name = name.start;
-            s.last_condition = h.end;
-            s
+    // `NAME: CONDITION`.
+    fn read_rule(
+        &mut self,
+        words: &mut Words<'a>,
+        store: &mut Store<'_>,
+    ) -> Result<(), Refused<'a>> {
+        let word = words.next();
+        let name = self.new_rule(word).map_err(|why| why.at(word))?;
+        let colon = words.next();
+        if !colon.is_some_and(|w| w.bytes == b":".as_slice()) {
+            return Err(Fault::NoColon.at(colon));
         }
-        _ => refused(rt, text, c.at, fault, s)?,
-    })
-}
+        let condition = *words;
+        let id = match self.condition(condition, store) {
+            Err(refused) if refused.is_no_room() => {
+                return Err(Fault::Hit(self.limit_of(condition, store)).at(word));
+            }
+            read => read?,
+        };
+        self.rules
+            .push(Rule { name, id }, Limit::Rules)
+            .map_err(|why| why.at(word))
+    }
 
-// `rule NAME: CONDITION`, from the name on.
-fn read_rule(
-    rt: &impl Print,
-    text: &[u8],
-    nodes: &mut [u32],
-    children: &mut [u32],
-    cuts: &mut [i64],
-    index: &mut [u32],
-    memo: &mut [u64],
-    rules: &mut [usize],
-    at: usize,
-    s: Sheet,
-) -> io::Result<Sheet> {
-    let h = rule_head(text, rules, s.count, at);
-    let fault = h.fault;
-    let Fault::Nothing = fault else {
-        return refused(rt, text, h.place, fault, s);
-    };
-    let variables = s.variables;
-    let c = condition(text, nodes, children, cuts, index, memo, variables, h.end);
-    rule_read(rt, text, rules, s, h, c)
-}
+    // One line. Its first word says what it is; an empty line and a comment say nothing.
+    fn read_line(&mut self, line: Words<'a>, store: &mut Store<'_>) -> Result<(), Refused<'a>> {
+        let mut words = line;
+        let Some(word) = words.next() else {
+            return Ok(());
+        };
+        match word.bytes {
+            b"measure" => self.read_variable(&mut words, VariableKind::Measure),
+            b"switch" => self.read_variable(&mut words, VariableKind::Switch),
+            b"rule" => self.read_rule(&mut words, store),
+            _ => Err(Fault::UnknownLine.at(Some(word))),
+        }
+    }
 
-// A line that is no rule. Its first word says what it is; an empty line and a comment say nothing.
-fn read_other(rt: &impl Print, text: &[u8], w: Word, s: Sheet) -> io::Result<Sheet> {
-    if reads(text, w, b"") {
-        return Ok(s);
+    // The whole text, or as much of it as comes before a limit. A line that cannot be read is shown at once.
+    pub fn read(
+        &mut self,
+        rt: &impl Print,
+        text: &'a [u8],
+        store: &mut Store<'_>,
+    ) -> io::Result<Unread> {
+        let mut unread = Unread {
+            lines: 0,
+            at_limit: false,
+        };
+        for (words, line) in (Lines { rest: text }).zip(1u64..) {
+            let Err(refused) = self.read_line(words, store) else {
+                continue;
+            };
+            unread.at_limit = refused.why.is_limit();
+            if unread.at_limit || unread.lines < MOST_SHOWN {
+                let shown = Unreadable {
+                    text,
+                    line,
+                    refused,
+                };
+                println!(rt; "{shown}")?;
+            }
+            unread.lines = unread.lines.saturating_add(1);
+            if unread.at_limit {
+                break;
+            }
+        }
+        Ok(unread)
     }
-    if reads(text, w, b"measure") {
-        return read_variable(rt, text, w.end, false, s);
-    }
-    if reads(text, w, b"switch") {
-        return read_variable(rt, text, w.end, true, s);
-    }
-    refused(rt, text, w.start, Fault::UnknownLine, s)
-}
-
-// One line.
-fn read_line(
-    rt: &impl Print,
-    text: &[u8],
-    nodes: &mut [u32],
-    children: &mut [u32],
-    cuts: &mut [i64],
-    index: &mut [u32],
-    memo: &mut [u64],
-    rules: &mut [usize],
-    at: usize,
-    s: Sheet,
-) -> io::Result<Sheet> {
-    let mut s = s;
-    s.line = wrapping_add_u64(s.line, 1);
-    let w = next_word(text, at);
-    if reads(text, w, b"rule") {
-        return read_rule(
-            rt, text, nodes, children, cuts, index, memo, rules, w.end, s,
-        );
-    }
-    read_other(rt, text, w, s)
-}
-
-// Where to read on: at the next line, or where a limit was hit at the end of the text.
-fn next_to_read(text: &[u8], at: usize, limited: bool) -> usize {
-    if limited {
-        return text.len();
-    }
-    next_line(text, at)
-}
-
-// The whole text, or as much of it as comes before a limit. A line has at least one byte, if only its newline, so there are no more lines
-// than bytes.
-pub fn read_lines(
-    rt: &impl Print,
-    text: &[u8],
-    nodes: &mut [u32],
-    children: &mut [u32],
-    cuts: &mut [i64],
-    index: &mut [u32],
-    memo: &mut [u64],
-    rules: &mut [usize],
-) -> io::Result<Sheet> {
-    let mut s = empty_sheet();
-    let mut at = 0;
-    let mut turns = text.len();
-    while turns > 0 && at < text.len() {
-        s = read_line(rt, text, nodes, children, cuts, index, memo, rules, at, s)?;
-        at = next_to_read(text, at, s.limited);
-        turns -= 1;
-    }
-    Ok(s)
 }

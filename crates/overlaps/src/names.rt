@@ -1,178 +1,130 @@
-// What the text has declared: the names of variables and rules, as words of the text.
-use super::faults::{Fault, MOST_NAME};
-use super::text::{NAME, NO_WORD, Word, bytes_of, kind_at, reads, run_end};
+// What the text has declared: the names of measures, of switches and of rules, as words of the text.
+ghost use Rattle.std.specs.Prelude.{◌≤◌, length};
+
+use super::faults::{Fault, Limit, MOST_NAME};
+use super::text::Word;
 use ids::NodeId;
-use table::limits::FIRST_BOOLEAN;
+use table::limits::{FIRST_BOOLEAN, VARIABLES};
+
+pub const MOST_MEASURES: usize = FIRST_BOOLEAN;
+
+pub const MOST_SWITCHES: usize = VARIABLES - FIRST_BOOLEAN;
 
 pub const MOST_RULES: usize = 256;
 
-// The rules are three numbers each, in a slice that is lent: where the name starts and ends, and the id of the condition.
-pub const RULE_WORDS: usize = 768;
-
-// The length of "other rule": no column of names is narrower.
-const HEADING: usize = 10;
-
-// 64 names, where the empty word stands for none. Variable v has name v: measures are the variables 0, 1, .. and switches 32, 33, ..
-#[derive(Clone, Copy)]
-pub struct Names {
-    pub words: [Word; 64],
+// A list with room for N. The places behind its first `count` are not used yet.
+// An array with a count, since a list that grows would be on the heap.
+#[derive(Drop)]
+pub struct List<T, const N: usize> {
+    items: [T; N],
+    count: usize,
+    ghost room: { count ≤ N },
 }
 
-// What was read so far, beside the rules.
-#[derive(Clone, Copy)]
-pub struct Sheet {
-    pub variables: Names,
-    // The variables that the next measure and the next switch get.
-    pub next_measure: usize,
-    pub next_switch: usize,
-    // How many rules there are.
-    pub count: usize,
-    // The width of a column of rules: the longest name.
-    pub widest: usize,
-    // How many lines were read, and how many of them could not be.
-    pub line: u64,
-    pub faults: u64,
-    // Whether a limit was hit, so that no more is read. Where it is the kernel's "no room", the rule's name and where its condition starts.
-    pub limited: bool,
-    pub no_room: bool,
-    pub last_name: usize,
-    pub last_condition: usize,
-}
+impl<T: Copy, const N: usize> List<T, N> {
+    // Nothing, where `unused` stands in every place.
+    pub fn new(unused: T) -> Self {
+        List {
+            items: [unused; N],
+            count: 0,
+        }
+    }
 
-// A slot of `Names`, or none.
-#[derive(Clone, Copy)]
-pub enum Found {
-    At(usize),
-    Nothing,
+    pub fn as_slice(&self) -> &[T]
+        ensures { length result.now ≤ N }
+    {
+        &self.items[..self.count]
+    }
+
+    // Puts an item behind the others. Where there is no room for it, the limit is hit.
+    pub fn push(&mut self, item: T, limit: Limit) -> Result<(), Fault> {
+        if self.count == N {
+            return Err(Fault::Hit(limit));
+        }
+        self.items[self.count] = item;
+        self.count += 1;
+        Ok(())
+    }
 }
 
 // A rule: its name, and the kernel's id of its condition.
 #[derive(Clone, Copy)]
-pub struct Rule {
-    pub name: Word,
+pub struct Rule<'a> {
+    pub name: &'a str,
     pub id: NodeId,
 }
 
-// Nothing read.
-pub fn empty_sheet() -> Sheet {
-    let words = [NO_WORD; 64];
-    Sheet {
-        variables: Names { words },
-        next_measure: 0,
-        next_switch: FIRST_BOOLEAN,
-        count: 0,
-        widest: HEADING,
-        line: 0,
-        faults: 0,
-        limited: false,
-        no_room: false,
-        last_name: 0,
-        last_condition: 0,
-    }
+// What the line that declares a variable says it is.
+#[derive(Clone, Copy)]
+pub enum VariableKind {
+    Measure,
+    Switch,
 }
 
-// Number i of the slice of rules; 0 behind its end.
-fn number_at(rules: &[usize], i: usize) -> usize {
-    if i < rules.len() {
-        return rules[i];
-    }
-    0
+// A variable by its number: measures are 0, 1, .. and switches 32, 33, .. in the order of the lines.
+#[derive(Clone, Copy)]
+pub enum Variable {
+    Measure(u32),
+    Switch(u32),
 }
 
-// Rule i. What is no rule has the empty name, and a condition that never holds.
-pub fn rule_at(rules: &[usize], i: usize) -> Rule {
-    if i >= MOST_RULES {
-        return Rule {
-            name: NO_WORD,
+// What the lines read so far say.
+#[derive(Drop)]
+pub struct Sheet<'a> {
+    pub measures: List<&'a str, MOST_MEASURES>,
+    pub switches: List<&'a str, MOST_SWITCHES>,
+    pub rules: List<Rule<'a>, MOST_RULES>,
+}
+
+impl<'a> Sheet<'a> {
+    // Nothing read.
+    pub fn new() -> Self {
+        let unused = Rule {
+            name: "",
             id: NodeId::FALSE,
         };
-    }
-    let start = number_at(rules, i * 3);
-    let end = number_at(rules, i * 3 + 1);
-    let id = (number_at(rules, i * 3 + 2) % 4294967296) as u32;
-    Rule {
-        name: Word { start, end },
-        id: NodeId(id),
-    }
-}
-
-// Number i of the slice of rules becomes n, if there is such a place.
-fn put(rules: &mut [usize], i: usize, n: usize) -> bool {
-    if i < rules.len() {
-        rules[i] = n;
-        return true;
-    }
-    false
-}
-
-// Puts rule i down, and tells whether there was a place for it.
-pub fn put_rule(rules: &mut [usize], i: usize, name: Word, id: NodeId) -> bool {
-    if i >= MOST_RULES {
-        return false;
-    }
-    put(rules, i * 3, name.start);
-    put(rules, i * 3 + 1, name.end);
-    put(rules, i * 3 + 2, id.0 as usize)
-}
-
-// Where a name stands among the variables. The empty word is no name, and is not looked for.
-pub fn find(text: &[u8], names: Names, w: Word) -> Found {
-    for i in 0..64usize {
-        let word = names.words[i];
-        if reads(text, w, bytes_of(text, word)) {
-            return Found::At(i);
+        Sheet {
+            measures: List::new(""),
+            switches: List::new(""),
+            rules: List::new(unused),
         }
     }
-    Found::Nothing
-}
 
-// Whether one of the first rules has this name.
-pub fn is_rule(text: &[u8], rules: &[usize], count: usize, w: Word) -> bool {
-    for i in 0..count {
-        let rule = rule_at(rules, i);
-        let name = rule.name;
-        if reads(text, w, bytes_of(text, name)) {
-            return true;
+    // The variable of a name, if it has been declared.
+    pub fn variable(&self, name: &str) -> Option<Variable> {
+        let is_name = |declared: &&str| *declared == name;
+        if let Some(i) = self.measures.as_slice().iter().position(is_name) {
+            return Some(Variable::Measure(i as u32));
         }
+        let i = self.switches.as_slice().iter().position(is_name)?;
+        Some(Variable::Switch((FIRST_BOOLEAN + i) as u32))
     }
-    false
-}
 
-// Why a word cannot be a name at all, if so.
-pub fn a_name(text: &[u8], w: Word) -> Fault {
-    let word = bytes_of(text, w);
-    if kind_at(text, w.start) != NAME || run_end(text, w.start, NAME) != w.end {
-        return Fault::NoName;
+    // The word as the name of a new variable, or why it cannot be.
+    pub fn new_variable(&self, word: Option<Word<'a>>) -> Result<&'a str, Fault> {
+        new_name(word, |name| self.variable(name).is_some())
     }
-    if word.len() > MOST_NAME {
-        return Fault::LongName;
-    }
-    if reads(text, w, b"and") || reads(text, w, b"or") || reads(text, w, b"not") {
-        return Fault::ReservedName;
-    }
-    Fault::Nothing
-}
 
-// Why a word cannot be a new variable's name, if so.
-pub fn new_variable(text: &[u8], names: Names, w: Word) -> Fault {
-    let fault = a_name(text, w);
-    let Fault::Nothing = fault else {
-        return fault;
-    };
-    match find(text, names, w) {
-        Found::At(_) => Fault::TakenName,
-        Found::Nothing => Fault::Nothing,
+    // The word as the name of a new rule, or why it cannot be.
+    pub fn new_rule(&self, word: Option<Word<'a>>) -> Result<&'a str, Fault> {
+        let rules = self.rules.as_slice();
+        new_name(word, |name| rules.iter().any(|rule| rule.name == name))
     }
 }
 
-// Why a word cannot be a new rule's name, if so.
-pub fn new_rule(text: &[u8], rules: &[usize], count: usize, w: Word) -> Fault {
-    let fault = a_name(text, w);
-    let Fault::Nothing = fault else {
-        return fault;
-    };
-    if is_rule(text, rules, count, w) {
-        return Fault::TakenName;
+// The word as a name that is not taken, or why it cannot be one.
+fn new_name<F: Fn(&str) -> bool>(word: Option<Word<'_>>, is_taken: F) -> Result<&str, Fault>
+    requires { F.IsAlwaysCallable is_taken }
+{
+    let name = word.and_then(|w| w.as_name()).ok_or(Fault::NoName)?;
+    if name.len() > MOST_NAME {
+        return Err(Fault::LongName);
     }
-    Fault::Nothing
+    if matches!(name, "and" | "or" | "not") {
+        return Err(Fault::ReservedName);
+    }
+    if is_taken(name) {
+        return Err(Fault::TakenName);
+    }
+    Ok(name)
 }

@@ -7,7 +7,7 @@ ghost use Rattle.ranges.specs.declared.bounds.Bound.TheVariants.{Open};
 use super::places::{TOP, position_of_key};
 
 // One end of a range: open, with a key, or up to a key but without it.
-#[derive(Clone, Copy)]
+#[derive(Clone, Copy, PartialEq, Eq)]
 pub enum Bound {
     Open,
     Includes(i32),
@@ -15,7 +15,7 @@ pub enum Bound {
 }
 
 // A comparison with a key: = != < <= > >=.
-#[derive(Clone, Copy)]
+#[derive(Clone, Copy, PartialEq, Eq)]
 pub enum Comparison {
     Equal,
     NotEqual,
@@ -39,6 +39,7 @@ pub fn first_of(lower: Bound) -> u64
 }
 
 // The position of the last place inside an upper bound.
+// It mirrors `first_of`: one function for both ends would ask in each arm which end it is, and be no plainer.
 pub fn last_of(upper: Bound) -> u64
     ensures { result ≡ position (last_place upper) }
 {
@@ -53,20 +54,5 @@ pub fn last_of(upper: Bound) -> u64
 pub fn both_open(lower: Bound, upper: Bound) -> bool
     ensures { result ≡ true → (lower ≡ Open) × (upper ≡ Open) }
 {
-    match lower {
-        Bound::Open => is_open(upper),
-        Bound::Includes(_) => false,
-        Bound::Excludes(_) => false,
-    }
-}
-
-// One open end.
-fn is_open(bound: Bound) -> bool
-    ensures { result ≡ true → bound ≡ Open }
-{
-    match bound {
-        Bound::Open => true,
-        Bound::Includes(_) => false,
-        Bound::Excludes(_) => false,
-    }
+    lower == Bound::Open && upper == Bound::Open
 }

@@ -36,6 +36,5 @@ pub fn position_of_key(key: i32) -> u64
     ensures { result ≡ position (exactly key) }
 {
     // Widened first: twice a key need not fit into an `i32`.
-    let wide = key as i64;
-    (wide + wide - LOWEST) as u64
+    (i64::from(key) * 2 - LOWEST) as u64
 }

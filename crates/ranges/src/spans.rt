@@ -7,21 +7,23 @@ use super::bounds::{Bound, Comparison, first_of, last_of};
 use super::places::TOP;
 
 // The positions from the first to the last, both included; none where the first is above the last.
-#[derive(Clone, Copy)]
+// No ghost field says that both are on the line: `intersection` and `complement` promise their answer for any two positions.
+#[derive(Clone, Copy, PartialEq, Eq)]
 pub struct Range {
     pub first: u64,
     pub last: u64,
 }
 
 // Two ranges, one to the left of the other; each may be empty.
-#[derive(Clone, Copy)]
+#[derive(Clone, Copy, PartialEq, Eq)]
 pub struct Parts {
     pub left: Range,
     pub right: Range,
 }
 
 // Where a comparison holds: inside a range, or outside it.
-#[derive(Clone, Copy)]
+// A flag and no enum: in either case there is a range, and the definition `Compares` speaks of both fields.
+#[derive(Clone, Copy, PartialEq, Eq)]
 pub struct Compared {
     pub range: Range,
     pub outside: bool,
@@ -37,6 +39,7 @@ impl Range {
         last: TOP,
     };
 
+    // Two parameters: a struct of both bounds would say no more than `Range`, which is made of them here.
     pub fn from_bounds(lower: Bound, upper: Bound) -> Range
         ensures { Bounded lower upper result }
     {
@@ -56,32 +59,25 @@ impl Range {
         ensures { Both self other result }
     {
         // Ranges that do not meet need no case: the ends then cross, and crossed ends are an empty range.
-        let mut first = self.first;
-        if first < other.first {
-            first = other.first;
+        Range {
+            first: self.first.max(other.first),
+            last: self.last.min(other.last),
         }
-        let mut last = self.last;
-        if other.last < last {
-            last = other.last;
-        }
-        Range { first, last }
     }
 
     // What the range leaves of the line: the part below it and the part above it.
     pub fn complement(self) -> Parts
         ensures { Outside self result }
     {
-        let first = self.first;
-        let last = self.last;
-        if last < first {
+        if self.is_empty() {
             return Parts {
                 left: Range::FULL,
                 right: Range::EMPTY,
             };
         }
         Parts {
-            left: before(first),
-            right: after(last),
+            left: before(self.first),
+            right: after(self.last),
         }
     }
 
@@ -90,10 +86,7 @@ impl Range {
         ensures { result ≡ neighbours self next }
     {
         // The ends of an empty range may fit, but it goes on nowhere. And nothing ends before position 0: 1 cannot be taken from it.
-        if self.is_empty() || next.is_empty() || next.first == 0 {
-            return false;
-        }
-        next.first - 1 == self.last
+        !self.is_empty() && !next.is_empty() && 0 < next.first && next.first - 1 == self.last
     }
 }
 
@@ -111,6 +104,7 @@ fn before(first: u64) -> Range
 }
 
 // The positions of the line above one.
+// It mirrors `before`, at the other end of the line: one function for both would be no plainer.
 fn after(last: u64) -> Range
     ensures { After last result }
 {

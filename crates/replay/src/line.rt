@@ -2,104 +2,92 @@
 // may come in any number of pieces, so nothing here looks back at bytes that were read.
 use super::numbers::Number;
 
-// What the letter is before there is one. A newline ends a line, so it is no letter.
-pub const EMPTY: u8 = b'\n';
-
-pub const COMMENT: u8 = b'#';
-
-// What the letter becomes when a line is not of that form. No operation has it.
-const WRONG: u8 = b'?';
-
 // The most numbers that an operation takes. Those behind them are read and dropped.
 const MOST: usize = 6;
 
 #[derive(Clone, Copy)]
-pub struct Line {
+pub enum Line {
+    // No byte yet.
+    Empty,
+    // It begins with `#`.
+    Comment,
+    Words(Words),
+    // It is not of that form.
+    Wrong,
+}
+
+impl Line {
+    // The line gets a byte more, which is not its end.
+    pub fn push(&mut self, byte: u8) {
+        match self {
+            Line::Empty if byte == b'#' => *self = Line::Comment,
+            Line::Empty => *self = Line::Words(Words::new(byte)),
+            Line::Words(words) => {
+                if words.push(byte).is_err() {
+                    *self = Line::Wrong;
+                }
+            }
+            Line::Comment | Line::Wrong => {}
+        }
+    }
+}
+
+// A byte may not stand where it does.
+#[derive(Clone, Copy)]
+struct Misplaced;
+
+// A letter, and the numbers behind it. How many there are stands beside them, since a list that grows would be on the heap.
+#[derive(Clone, Copy)]
+pub struct Words {
     pub letter: u8,
-    pub numbers: [Number; 6],
-    // How many numbers have begun; one more than MOST stands for any more.
+    pub numbers: [Number; MOST],
+    // How many numbers have begun.
     begun: usize,
     // Whether the last byte was a space, so that a minus may come.
     spaced: bool,
 }
 
-impl Line {
-    // No byte yet.
-    pub const NONE: Line = Line {
-        letter: EMPTY,
-        numbers: [Number::ZERO; 6],
-        begun: 0,
-        spaced: false,
-    };
-
+impl Words {
     // A letter, and no number yet.
-    fn of(letter: u8) -> Line {
-        let mut line = Line::NONE;
-        line.letter = letter;
-        line
+    fn new(letter: u8) -> Words {
+        Words {
+            letter,
+            numbers: [Number::default(); MOST],
+            begun: 0,
+            spaced: false,
+        }
     }
 
-    // The line with a byte more, which is not its end.
-    pub fn with(self, byte: u8) -> Line {
-        let letter = self.letter;
-        if letter == EMPTY {
-            return Line::of(byte);
-        }
-        if letter == COMMENT {
-            return self;
-        }
+    // The words get a byte more.
+    fn push(&mut self, byte: u8) -> Result<(), Misplaced> {
         match byte {
-            b' ' => self.with_space(),
-            b'-' => self.with_minus(),
-            b'0'..=b'9' => self.with_digit(byte),
-            _ => Line::of(WRONG),
+            // A number begins.
+            b' ' => {
+                self.begun = self.begun.saturating_add(1);
+                self.spaced = true;
+            }
+            // A number is below 0, if the minus stands right behind the space.
+            b'-' if self.spaced => {
+                self.spaced = false;
+                if let Some(number) = self.last_mut() {
+                    number.minus = true;
+                }
+            }
+            // A number has a digit more, if one has begun.
+            b'0'..=b'9' if self.begun > 0 => {
+                if let Some(number) = self.last_mut() {
+                    number.push(byte - b'0');
+                    self.spaced = false;
+                }
+            }
+            _ => return Err(Misplaced),
         }
+        Ok(())
     }
 
-    // A number begins.
-    fn with_space(mut self) -> Line {
-        if self.begun <= MOST {
-            self.begun += 1;
-        }
-        self.spaced = true;
-        self
-    }
-
-    // A number is below 0, if the minus stands right behind the space.
-    fn with_minus(self) -> Line {
-        if !self.spaced {
-            return Line::of(WRONG);
-        }
-        self.holding(Number {
-            minus: true,
-            size: 0,
-        })
-    }
-
-    // A number has a digit more, if one has begun.
-    fn with_digit(self, byte: u8) -> Line {
-        let at = self.begun;
-        if at == 0 {
-            return Line::of(WRONG);
-        }
-        if at > MOST {
-            return self;
-        }
-        let n = self.numbers[at - 1];
-        self.holding(n.longer(byte))
-    }
-
-    // The line with this as its last number.
-    fn holding(mut self, n: Number) -> Line {
-        let at = self.begun;
-        self.spaced = false;
-        if at == 0 {
-            return self;
-        }
-        if at > MOST {
-            return self;
-        }
-        self.numbers[at - 1] = n;
-        self
+    // The number that began last, unless it is one of those that are dropped.
+    fn last_mut(&mut self) -> Option<&mut Number> {
+        let last = self.begun.checked_sub(1)?;
+        self.numbers.get_mut(last)
     }
 }

@@ -4,62 +4,44 @@
 #![tactic(auto)]
 
 use std::io;
+use std::io::{Read, Write};
 
-mod answering;
-mod asking;
 mod lending;
 mod line;
 mod numbers;
+mod operations;
 mod output;
 mod questions;
-mod reading;
-mod showing;
 
-use answering::end_line;
-use output::flush;
-use reading::{State, read_line};
-use table::limits::{
-    FIRST_BOOLEAN, INDEX_WORDS, MEMO_WORDS, MOST_EDGE_ROOM, MOST_NODES, RECORD_WORDS,
-};
+use lending::Held;
+use line::Line;
+use operations::Operation;
+use output::{BUFFER, Output};
 
-// What is held: room for one node and one edge more than a table may have, so that a room that is too large can be lent too.
-const NODES: usize = RECORD_WORDS * (MOST_NODES + 1);
-
-const EDGES: usize = MOST_EDGE_ROOM + 1;
-
-const INDEX: usize = INDEX_WORDS * (MOST_NODES + 1);
-
-const MEMO: usize = MEMO_WORDS * (MOST_NODES + 1);
-
-// Bytes read or written at once.
-const BUFFER: usize = 65536;
-
-// A proved loop has to end, and nothing says that the input does. So the lines are counted down, from a number that no run uses up.
 fn main(rt: HostRuntime) -> io::Result<()> {
-    let mut nodes = [0u32; NODES];
-    let mut children = [0u32; EDGES];
-    let mut cuts = [0i64; EDGES];
-    let mut index = [0u32; INDEX];
-    let mut memo = [0u64; MEMO];
-    let mut places = [0i64; FIRST_BOOLEAN];
+    let mut held = Held::new();
+    let mut out = Output::new(&rt);
     let mut input = [0u8; BUFFER];
-    let mut out = [0u8; BUFFER];
-    let mut s = State::START;
-    let mut lines = u64::MAX;
-    while lines > 0 && s.open {
-        let read = read_line(&rt, &mut input, &out, s)?;
-        s = end_line(
-            &rt,
-            &mut nodes,
-            &mut children,
-            &mut cuts,
-            &mut index,
-            &mut memo,
-            &mut places,
-            &mut out,
-            read,
-        )?;
-        lines -= 1;
+    let mut line = Line::Empty;
+    // A proved loop has to end, and nothing says that the input does. So the reads are counted, up to a number that no run reaches.
+    for _ in 0..u64::MAX {
+        // What waits is written before: whoever is to send the next lines may be waiting for it.
+        out.flush()?;
+        // A failed read is taken as the end of the input.
+        let count = rt.reader().read(&mut input).unwrap_or(0);
+        if count == 0 {
+            break;
+        }
+        for &byte in &input[..count] {
+            if byte == b'\n' {
+                held.run(Operation::from(line), &mut out)?;
+                line = Line::Empty;
+            } else {
+                line.push(byte);
+            }
+        }
     }
-    flush(&rt, &out, s.waiting)
+    // The end of the input ends the last line.
+    held.run(Operation::from(line), &mut out)?;
+    out.flush()
 }

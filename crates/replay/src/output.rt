@@ -1,45 +1,63 @@
-// What waits to be written: the first so many bytes of a buffer. The functions answer how many wait when they are done.
-use super::numbers::size_of;
+// What waits to be written.
+ghost use Rattle.std.specs.Prelude.{◌≤◌};
+ghost use Rattle.replay.specs.declared.output.TheConstants.{BUFFER};
+
+use std::fmt::Display;
 use std::io;
 use std::io::Write;
 
-// Writes what waits.
-pub fn flush(rt: &impl Print, out: &[u8], waiting: usize) -> io::Result<()> {
-    if waiting <= out.len() {
-        io::writer(rt).write_all(&out[0..waiting])?;
-    }
-    Ok(())
+// Bytes read or written at once.
+pub const BUFFER: usize = 65536;
+
+// The first so many bytes of the buffer wait. It is no `BufWriter` of std, since those are on the heap.
+#[derive(Drop)]
+pub struct Output<'a, R> {
+    rt: &'a R,
+    buffer: [u8; BUFFER],
+    waiting: usize,
+    ghost held: { waiting ≤ BUFFER },
 }
 
-// One byte more. A full buffer is written first.
-pub fn put(rt: &impl Print, out: &mut [u8], waiting: usize, byte: u8) -> io::Result<usize> {
-    if waiting < out.len() {
-        out[waiting] = byte;
-        return Ok(waiting + 1);
+impl<'a, R: Print> Output<'a, R> {
+    pub fn new(rt: &'a R) -> Output<'a, R> {
+        Output {
+            rt,
+            buffer: [0; BUFFER],
+            waiting: 0,
+        }
     }
-    flush(rt, out, waiting)?;
-    if 0 < out.len() {
-        out[0] = byte;
-        return Ok(1);
+
+    // The words up to the last one that is not 0, each with a space after it, and then a bar.
+    pub fn words<T: Copy + Default + Display + PartialEq>(
+        &mut self,
+        words: &[T],
+    ) -> io::Result<()> {
+        if let Some(last) = words.iter().rposition(|word| *word != T::default()) {
+            for word in &words[..=last] {
+                write!(self, "{word} ")?;
+            }
+        }
+        write!(self, "|")
     }
-    Ok(0)
 }
 
-// The decimal digits of a number: those before the last one, and the last one.
-pub fn put_number(rt: &impl Print, out: &mut [u8], waiting: usize, n: u64) -> io::Result<usize> {
-    let digit = b'0' + (n % 10) as u8;
-    if n < 10 {
-        return put(rt, out, waiting, digit);
+impl<R: Print> Write for Output<'_, R> {
+    // As many bytes as there is room for. A full buffer is written first.
+    fn write(&mut self, bytes: &[u8]) -> io::Result<usize> {
+        if self.waiting == BUFFER {
+            self.flush()?;
+        }
+        let room = &mut self.buffer[self.waiting..];
+        let count = bytes.len().min(room.len());
+        room[..count].copy_from_slice(&bytes[..count]);
+        self.waiting += count;
+        Ok(count)
     }
-    let w = put_number(rt, out, waiting, n / 10)?;
-    put(rt, out, w, digit)
-}
 
-// The same of a number that may be below 0.
-pub fn put_signed(rt: &impl Print, out: &mut [u8], waiting: usize, n: i64) -> io::Result<usize> {
-    if n < 0 {
-        let w = put(rt, out, waiting, b'-')?;
-        return put_number(rt, out, w, size_of(n));
+    // Writes what waits.
+    fn flush(&mut self) -> io::Result<()> {
+        io::writer(self.rt).write_all(&self.buffer[..self.waiting])?;
+        self.waiting = 0;
+        Ok(())
     }
-    put_number(rt, out, waiting, size_of(n))
 }

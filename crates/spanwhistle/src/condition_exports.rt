@@ -7,9 +7,10 @@ ghost use Rattle.kernel.specs.Calls.{range_of, comparison_of, boolean_of};
 ghost use Rattle.kernel.specs.Makes.{Comes};
 ghost use Rattle.spanwhistle.specs.Numbers.{bound_of};
 
-use super::numbers::bound_of;
+use super::numbers::{bound_of, hand_id};
 use kernel::conditions_calls;
 use ranges::bounds::Comparison;
+use table::lent::TableMut;
 
 // The variable = the key.
 #[unsafe(no_mangle)]
@@ -24,10 +25,17 @@ pub extern "C" fn spanwhistle_equal(
 ) -> u32
     ensures { Comes (comparison_of variable Equal key) (store nodes.old children.old cuts.old) index.old [] result id.new (store nodes.new children.new cuts.new) index.new [] }
 {
+    let mut table = TableMut {
+        nodes,
+        children,
+        cuts,
+        index,
+    };
     let op = Comparison::Equal;
-    let a = conditions_calls::from_comparison(nodes, children, cuts, index, variable, op, key);
-    *id = a.id.0;
-    a.number
+    hand_id(
+        conditions_calls::from_comparison(&mut table, variable, op, key),
+        id,
+    )
 }
 
 // The variable != the key.
@@ -43,10 +51,17 @@ pub extern "C" fn spanwhistle_not_equal(
 ) -> u32
     ensures { Comes (comparison_of variable NotEqual key) (store nodes.old children.old cuts.old) index.old [] result id.new (store nodes.new children.new cuts.new) index.new [] }
 {
+    let mut table = TableMut {
+        nodes,
+        children,
+        cuts,
+        index,
+    };
     let op = Comparison::NotEqual;
-    let a = conditions_calls::from_comparison(nodes, children, cuts, index, variable, op, key);
-    *id = a.id.0;
-    a.number
+    hand_id(
+        conditions_calls::from_comparison(&mut table, variable, op, key),
+        id,
+    )
 }
 
 // The variable < the key.
@@ -62,10 +77,17 @@ pub extern "C" fn spanwhistle_less_than(
 ) -> u32
     ensures { Comes (comparison_of variable LessThan key) (store nodes.old children.old cuts.old) index.old [] result id.new (store nodes.new children.new cuts.new) index.new [] }
 {
+    let mut table = TableMut {
+        nodes,
+        children,
+        cuts,
+        index,
+    };
     let op = Comparison::LessThan;
-    let a = conditions_calls::from_comparison(nodes, children, cuts, index, variable, op, key);
-    *id = a.id.0;
-    a.number
+    hand_id(
+        conditions_calls::from_comparison(&mut table, variable, op, key),
+        id,
+    )
 }
 
 // The variable <= the key.
@@ -81,10 +103,17 @@ pub extern "C" fn spanwhistle_less_equal(
 ) -> u32
     ensures { Comes (comparison_of variable LessEqual key) (store nodes.old children.old cuts.old) index.old [] result id.new (store nodes.new children.new cuts.new) index.new [] }
 {
+    let mut table = TableMut {
+        nodes,
+        children,
+        cuts,
+        index,
+    };
     let op = Comparison::LessEqual;
-    let a = conditions_calls::from_comparison(nodes, children, cuts, index, variable, op, key);
-    *id = a.id.0;
-    a.number
+    hand_id(
+        conditions_calls::from_comparison(&mut table, variable, op, key),
+        id,
+    )
 }
 
 // The variable > the key.
@@ -100,10 +129,17 @@ pub extern "C" fn spanwhistle_greater_than(
 ) -> u32
     ensures { Comes (comparison_of variable GreaterThan key) (store nodes.old children.old cuts.old) index.old [] result id.new (store nodes.new children.new cuts.new) index.new [] }
 {
+    let mut table = TableMut {
+        nodes,
+        children,
+        cuts,
+        index,
+    };
     let op = Comparison::GreaterThan;
-    let a = conditions_calls::from_comparison(nodes, children, cuts, index, variable, op, key);
-    *id = a.id.0;
-    a.number
+    hand_id(
+        conditions_calls::from_comparison(&mut table, variable, op, key),
+        id,
+    )
 }
 
 // The variable >= the key.
@@ -119,10 +155,17 @@ pub extern "C" fn spanwhistle_greater_equal(
 ) -> u32
     ensures { Comes (comparison_of variable GreaterEqual key) (store nodes.old children.old cuts.old) index.old [] result id.new (store nodes.new children.new cuts.new) index.new [] }
 {
+    let mut table = TableMut {
+        nodes,
+        children,
+        cuts,
+        index,
+    };
     let op = Comparison::GreaterEqual;
-    let a = conditions_calls::from_comparison(nodes, children, cuts, index, variable, op, key);
-    *id = a.id.0;
-    a.number
+    hand_id(
+        conditions_calls::from_comparison(&mut table, variable, op, key),
+        id,
+    )
 }
 
 // The variable between two bounds. A bound is a kind and a key, as in `bound_of`.
@@ -143,9 +186,16 @@ pub extern "C" fn spanwhistle_from_range(
 {
     let lower = bound_of(lower_kind, lower_key);
     let upper = bound_of(upper_kind, upper_key);
-    let a = conditions_calls::from_range(nodes, children, cuts, index, variable, lower, upper);
-    *id = a.id.0;
-    a.number
+    let mut table = TableMut {
+        nodes,
+        children,
+        cuts,
+        index,
+    };
+    hand_id(
+        conditions_calls::from_range(&mut table, variable, lower, upper),
+        id,
+    )
 }
 
 // A boolean variable: its number is 32 to 63.
@@ -160,7 +210,11 @@ pub extern "C" fn spanwhistle_from_bool(
 ) -> u32
     ensures { Comes (boolean_of variable) (store nodes.old children.old cuts.old) index.old [] result id.new (store nodes.new children.new cuts.new) index.new [] }
 {
-    let a = conditions_calls::from_bool(nodes, children, cuts, index, variable);
-    *id = a.id.0;
-    a.number
+    let mut table = TableMut {
+        nodes,
+        children,
+        cuts,
+        index,
+    };
+    hand_id(conditions_calls::from_bool(&mut table, variable), id)
 }

@@ -5,9 +5,10 @@ ghost use Rattle.kernel.specs.Calls.{both_of, either_of, restriction_of, narrowi
 ghost use Rattle.kernel.specs.Makes.{Comes, Disjoints};
 ghost use Rattle.spanwhistle.specs.Numbers.{bound_of, is_yes, Telling};
 
-use super::numbers::{bound_of, word_of};
+use super::numbers::{bound_of, hand_id, hand_yes};
 use ids::NodeId;
 use kernel::{changes_calls, disjointness_calls, joins_calls};
+use table::lent::{Table, TableMut};
 
 // Both x and y.
 #[unsafe(no_mangle)]
@@ -23,9 +24,13 @@ pub extern "C" fn spanwhistle_and(
 ) -> u32
     ensures { Comes (both_of x y) (store nodes.old children.old cuts.old) index.old memo.old result id.new (store nodes.new children.new cuts.new) index.new memo.new }
 {
-    let a = joins_calls::and(nodes, children, cuts, index, memo, NodeId(x), NodeId(y));
-    *id = a.id.0;
-    a.number
+    let mut table = TableMut {
+        nodes,
+        children,
+        cuts,
+        index,
+    };
+    hand_id(joins_calls::and(&mut table, memo, NodeId(x), NodeId(y)), id)
 }
 
 // x, y or both.
@@ -42,9 +47,13 @@ pub extern "C" fn spanwhistle_or(
 ) -> u32
     ensures { Comes (either_of x y) (store nodes.old children.old cuts.old) index.old memo.old result id.new (store nodes.new children.new cuts.new) index.new memo.new }
 {
-    let a = joins_calls::or(nodes, children, cuts, index, memo, NodeId(x), NodeId(y));
-    *id = a.id.0;
-    a.number
+    let mut table = TableMut {
+        nodes,
+        children,
+        cuts,
+        index,
+    };
+    hand_id(joins_calls::or(&mut table, memo, NodeId(x), NodeId(y)), id)
 }
 
 // Whether no reading makes both x and y true: writes 1 for yes, and 0 for no and beside any refusal.
@@ -60,9 +69,16 @@ pub extern "C" fn spanwhistle_is_disjoint(
 ) -> u32
     ensures { Telling (Disjoints (store nodes.now children.now cuts.now) index.now x y) result yes.new }
 {
-    let t = disjointness_calls::is_disjoint(nodes, children, cuts, index, NodeId(x), NodeId(y));
-    *yes = word_of(t.yes);
-    t.number
+    let table = Table {
+        nodes,
+        children,
+        cuts,
+        index,
+    };
+    hand_yes(
+        disjointness_calls::is_disjoint(&table, NodeId(x), NodeId(y)),
+        yes,
+    )
 }
 
 // x with the boolean set to `value`: 0 is no, and every other number is yes.
@@ -82,9 +98,16 @@ pub extern "C" fn spanwhistle_restrict(
 {
     // Any number is taken: a `bool` from C might have bits that are neither yes nor no, and there is no refusal for those.
     let yes = value != 0;
-    let a = changes_calls::restrict(nodes, children, cuts, index, memo, NodeId(x), variable, yes);
-    *id = a.id.0;
-    a.number
+    let mut table = TableMut {
+        nodes,
+        children,
+        cuts,
+        index,
+    };
+    hand_id(
+        changes_calls::restrict(&mut table, memo, NodeId(x), variable, yes),
+        id,
+    )
 }
 
 // x at the nearest place inside the bounds. A bound is a kind and a key, as in `bound_of`.
@@ -107,19 +130,16 @@ pub extern "C" fn spanwhistle_narrow(
 {
     let lower = bound_of(lower_kind, lower_key);
     let upper = bound_of(upper_kind, upper_key);
-    let a = changes_calls::narrow(
+    let mut table = TableMut {
         nodes,
         children,
         cuts,
         index,
-        memo,
-        NodeId(x),
-        variable,
-        lower,
-        upper,
-    );
-    *id = a.id.0;
-    a.number
+    };
+    hand_id(
+        changes_calls::narrow(&mut table, memo, NodeId(x), variable, lower, upper),
+        id,
+    )
 }
 
 // x and inside the bounds, which are given as in `spanwhistle_narrow`.
@@ -142,17 +162,14 @@ pub extern "C" fn spanwhistle_widen(
 {
     let lower = bound_of(lower_kind, lower_key);
     let upper = bound_of(upper_kind, upper_key);
-    let a = changes_calls::widen(
+    let mut table = TableMut {
         nodes,
         children,
         cuts,
         index,
-        memo,
-        NodeId(x),
-        variable,
-        lower,
-        upper,
-    );
-    *id = a.id.0;
-    a.number
+    };
+    hand_id(
+        changes_calls::widen(&mut table, memo, NodeId(x), variable, lower, upper),
+        id,
+    )
 }

@@ -5,9 +5,10 @@ ghost use Rattle.ids.specs.Id.{flip};
 ghost use Rattle.table.specs.Told.{Checks, Freshens, Hears};
 ghost use Rattle.spanwhistle.specs.Numbers.{Telling};
 
-use super::numbers::word_of;
+use super::numbers::{hand_yes, number_of};
 use ids::NodeId;
 use table::calls;
+use table::lent::{Table, TableMut, Used};
 
 // The opposite of an id: its lowest bit flipped. No id is refused.
 #[unsafe(no_mangle)]
@@ -29,10 +30,16 @@ pub extern "C" fn spanwhistle_check(
 ) -> u32
     ensures { Checks (store nodes.now children.now cuts.now) index.now result used_nodes.new used_edges.new }
 {
-    let c = calls::check(nodes, children, cuts, index);
-    *used_nodes = c.nodes;
-    *used_edges = c.edges;
-    c.number
+    let answer = calls::check(&Table {
+        nodes,
+        children,
+        cuts,
+        index,
+    });
+    let used = answer.unwrap_or(Used { nodes: 0, edges: 0 });
+    *used_nodes = used.nodes;
+    *used_edges = used.edges;
+    number_of(&answer)
 }
 
 // Makes an empty table in the lent room, whatever it held.
@@ -45,7 +52,13 @@ pub extern "C" fn spanwhistle_fresh(
 ) -> u32
     ensures { Freshens (store nodes.old children.old cuts.old) index.old result (store nodes.new children.new cuts.new) index.new }
 {
-    calls::fresh(nodes, children, cuts, index)
+    let answer = calls::fresh(&mut TableMut {
+        nodes,
+        children,
+        cuts,
+        index,
+    });
+    number_of(&answer)
 }
 
 // What an id says under 32 places and the 32 bits of `bools`: writes 1 for yes, and 0 for no and beside any refusal.
@@ -62,7 +75,11 @@ pub extern "C" fn spanwhistle_evaluate(
 ) -> u32
     ensures { Telling (Hears (store nodes.now children.now cuts.now) index.now places.now bools id) result yes.new }
 {
-    let t = calls::evaluate(nodes, children, cuts, index, places, bools, NodeId(id));
-    *yes = word_of(t.yes);
-    t.number
+    let table = Table {
+        nodes,
+        children,
+        cuts,
+        index,
+    };
+    hand_yes(calls::evaluate(&table, places, bools, NodeId(id)), yes)
 }

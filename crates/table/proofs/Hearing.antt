@@ -1,6 +1,8 @@
 -- The outcomes of the public calls: each input has one, and what the functions behind them decide is that one. Assumes nothing.
 use mathlib.Core.Path.{◌≡◌, refl, sym, ◌∙◌, ap, subst, fun_ext}
-use mathlib.Core.Bool.{Bool, true, false, cond, false≢true}
+use mathlib.Core.Bool.{Bool, true, false, cond}
+use Rattle.std.specs.Prelude.{Option, Some, None, Result}
+use Rattle.std.specs.Option.{ok_or}
 use mathlib.Core.List.{List}
 use Prim.Native.Nat.{ℕ, zero, suc, ◌-◌, ◌<◌}
 use native.Mathlib.Omega.{arith}
@@ -15,10 +17,14 @@ use Rattle.diagram.specs.Reading.{positions}
 use Rattle.table.specs.Layout.{cut_at, start, cut_position, Store, store}
 use Rattle.table.specs.Lent.{SoundLent}
 use Rattle.table.specs.Held.{held}
-use Rattle.table.specs.Told.{Allowed, Checks, checked_1, checked_2, checked_0, Freshens, freshened_1, freshened_0, Places, bit, reading_of, Refuses, refused_1, refused_2, refused_3, refused_last, Replies, reply_no, reply_0, Hears}
-use Rattle.table.specs.Checking.{spots, Judges, sound, unsound}
+use Rattle.table.specs.Told.{number_of, number_in, nodes_in, edges_in, Allowed, Checks, checked_1, checked_2, checked_0, Freshens, freshened_1, freshened_0, Places, bit, reading_of, Refuses, refused_1, refused_2, refused_3, refused_last, Replies, reply_no, reply_0, Hears}
+use Rattle.table.specs.Checking.{spots, Judges, sound, found, nodes_found, edges_found}
+use Rattle.table.specs.declared.lent.Used.{Used}
+use Rattle.table.specs.declared.refusal.Refusal.{Refusal}
+use Rattle.table.specs.declared.refusal.Refusal.TheVariants.{WrongRoom, NotSound, UnknownId, WrongVariable, BeyondPlaces, NoRoom}
 use Rattle.table.proofs.CutPositions.{cut_position_place}
 use Rattle.table.proofs.Once.{sound_once}
+use Rattle.table.proofs.Laws.{judged_no}
 
 -- the positions that the code reads are those of document 01's reading
 pub spots_reading : (places : List ℤ) (bools : ℕ) (ok : Places places) → spots places bools ≡ positions (reading_of places bools ok)
@@ -45,6 +51,15 @@ unknown_when_false u id e f k = omega (arith, leb-false (ref id) u (sym e ∙ f)
 -- what holds of one number of used nodes holds of the other
 as_used : {st : Store} {index : List ℕ} {u u' : ℕ} (P : ℕ → Type 0) → SoundLent st index u → SoundLent st index u' → P u → P u'
 as_used {st} {index} {u} {u'} P s s' k = subst P (sound_once st index u u' s s') k
+
+-- The number of a refusal is not 0.
+pub refusal_not_done : (e : Refusal) → number_of e ≡ 0 → ⊥
+refusal_not_done WrongRoom h = omega arith
+refusal_not_done NotSound h = omega arith
+refusal_not_done UnknownId h = omega arith
+refusal_not_done WrongVariable h = omega arith
+refusal_not_done BeyondPlaces h = omega arith
+refusal_not_done NoRoom h = omega arith
 
 -- A refusal before any work.
 module _ {lent : Type 0} {known : ℕ → Type 0} {last : ℕ} {right : Type 0} {st : Store} {index : List ℕ} where
@@ -94,14 +109,21 @@ module _ (st : Store) (index : List ℕ) where
   passed_check_sound (checked_2 a f) q = absurd (omega arith)
   passed_check_sound (checked_0 a u s) q = (a, s)
 
-  pub checks_it : {u e : ℕ} {b : Bool} → Allowed st index → Judges st index u e b → b ≡ true → Checks st index 0 u e
-  checks_it {u} a (sound s q) t = rw q (checked_0 a u s)
-  checks_it a (unsound f) t = absurd (false≢true t)
+  -- and what it says by what `judge` finds
+  pub checks_it : (o : Option Used) (r : Result Used Refusal) → r ≡ ok_or o NotSound → Allowed st index → Judges st index (nodes_found o) (edges_found o) (found o) → Checks st index (number_in r) (nodes_in r) (edges_in r)
+  checks_it o r e a j = subst (λ (x : Result Used Refusal). Checks st index (number_in x) (nodes_in x) (edges_in x)) (sym e) (go o j)
+    where
+      go : (o : Option Used) → Judges st index (nodes_found o) (edges_found o) (found o) → Checks st index (number_in (ok_or o NotSound)) (nodes_in (ok_or o NotSound)) (edges_in (ok_or o NotSound))
+      go None j = checked_2 a (judged_no j refl)
+      go (Some u) j = some u.nodes u.edges j
+        where
+          some : (n e : ℕ) → Judges st index n e true → Checks st index 0 n e
+          some n e (sound s q) = rw q (checked_0 a n s)
 
-  -- the last answer, from what the code reads with a number that is its argument
+  -- the last answer, from what the code reads
   pub hears_it : {u : ℕ} (places : List ℤ) (bools id : ℕ) → Allowed st index × (length places ≡ first_boolean) → SoundLent st index u → KnownTo u id → Places places
-      → {bools' : ℕ} → bools' ≡ bools → (b : Bool) → b ≡ value (held st u) (spots places bools') id → Hears st index places bools id 0 b
-  hears_it {u} places bools id a s k ok p b e = rw (e, p, spots_reading places bools ok) (reply_0 a u s k ok)
+      → (b : Bool) → b ≡ value (held st u) (spots places bools) id → Hears st index places bools id 0 b
+  hears_it {u} places bools id a s k ok b e = rw (e, spots_reading places bools ok) (reply_0 a u s k ok)
 
   pub freshens_it : {n c i : List ℕ} {k : List ℤ} → Allowed st index → n ≡ replicate (length st.nodes) 0 → c ≡ replicate (length st.children) 0 → k ≡ replicate (length st.cuts) (pos 0)
       → i ≡ replicate (length index) 0 → Freshens st index 0 (store n c k) i

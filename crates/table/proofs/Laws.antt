@@ -1,24 +1,20 @@
 -- What the proofs of several functions cite.
 -- Assumes nothing.
 use mathlib.Core.Path.{◌≡◌, refl, sym, ◌∙◌, ap, subst}
-use mathlib.Core.Bool.{Bool, true, false, cond}
-use mathlib.Core.List.{List, [], ◌∷◌}
+use mathlib.Core.Bool.{Bool, true, false}
+use mathlib.Core.List.{List}
 use mathlib.Core.Logic.{◌⊎◌, inl, inr, ⊎_elim}
-use Prim.Native.Nat.{ℕ, zero, suc, ◌+◌, ◌-◌, ◌*◌, ◌/◌, ◌≤◌, ◌<◌, ◌^◌}
+use Prim.Native.Nat.{ℕ, zero, suc, ◌+◌, ◌-◌, ◌*◌, ◌/◌, ◌≤◌, ◌<◌}
 use native.Mathlib.Omega.{arith}
-use native.Mathlib.Nat.{eq-or-lt_of_le, mul-le-mul, mul-lt-mul_of_pos_right}
-use borrow.Author.Tests.{lt-ltb, le-ltb, ltb-true, ltb-false}
+use native.Mathlib.Nat.{eq-or-lt_of_le, mul-lt-mul_of_pos_right}
 use lib.Bits.{bit_or, or_add_and, and_le_l, and_le_r}
-use lib.Dec.{T, ltb, leb→le, le→leb}
-use lib.ListN.{length, get_or}
-use lib.IntN.{ℤ, pos, negsuc, ◌+ℤ◌}
-use lib.Signed.{lt_z, ◌<ℤ◌, lt_z_yes, le_z_yes}
-use Rattle.ranges.specs.Line.{Place}
+use lib.ListN.{get_or}
+use lib.IntN.{ℤ, pos}
 use mir.Syntax.{w64}
 use mir.Val.{SFits, of_z, to_z}
 use mir.ValLaws.{to_z-of_z}
 use native.Mathlib.Numerals.{add-one}
-use Rattle.table.specs.Deciding.{Decides, holds, fails}
+use Rattle.std.specs.Prelude.{Decides}
 use Rattle.table.specs.Layout.{cut_position, cut_at, kid_at, count_at, first_at, start, Store}
 use Rattle.table.specs.Indexed.{hash_to, mix}
 use Rattle.table.specs.Lent.{SameRun, KidsStand, Blank, Rules, SoundLent}
@@ -28,21 +24,22 @@ use Rattle.table.specs.Checking.{below, Climbs, Judges, sound, unsound}
 pub not_false_and_true : {b : Bool} → b ≡ false → b ≡ true → ⊥
 not_false_and_true p q = let z : ◌≡◌ {A = ℕ} 0 1 = cc in omega arith
 
-pub decided_true : {P : Type 0} {b : Bool} → Decides P b → b ≡ true → P
-decided_true (holds p) e = p
-decided_true (fails n) e = absurd (not_false_and_true refl e)
+-- a test's answer, and what it says
+pub holds : {P : Type 0} → P → Decides true P
+holds p = (λ e. p, λ q. refl)
 
-pub decided_false : {P : Type 0} {b : Bool} → Decides P b → b ≡ false → P → ⊥
-decided_false (holds p) e q = not_false_and_true e refl
-decided_false (fails n) e q = n q
+pub fails : {P : Type 0} → (P → ⊥) → Decides false P
+fails n = (λ e. absurd (not_false_and_true refl e), λ q. absurd (n q))
+
+pub decided_true : {P : Type 0} {b : Bool} → Decides b P → b ≡ true → P
+decided_true d = d.0
+
+pub decided_false : {P : Type 0} {b : Bool} → Decides b P → b ≡ false → P → ⊥
+decided_false d e q = not_false_and_true e (d.1 q)
 
 -- an answer handed on
-pub to : {P Q : Type 0} {b : Bool} → Decides P b → (P → Q) → (Q → P) → Decides Q b
-to (holds p) f g = holds (f p)
-to (fails n) f g = fails (λ q. n (g q))
-
-pub eq_or_lt : (j i : ℕ) → j < i + 1 → (j ≡ i) ⊎ (j < i)
-eq_or_lt j i h = eq-or-lt_of_le (omega arith)
+pub to : {P Q : Type 0} {b : Bool} → Decides b P → (P → Q) → (Q → P) → Decides b Q
+to d f g = (λ e. f (d.0 e), λ q. d.1 (g q))
 
 pub lt_or_le : (a b : ℕ) → (a < b) ⊎ (b ≤ a)
 lt_or_le a zero = inr (omega arith)
@@ -73,92 +70,15 @@ one_less {x} {u} f l = go x f l
     go zero f l = absurd (f refl)
     go (suc x) f l = omega arith
 
-pub past : {X : Type 0} (xs : List X) (d : X) (j : ℕ) → length xs ≤ j → get_or xs j d ≡ d
-past [] d j h = refl
-past (x ∷ xs) d zero h = absurd (omega arith)
-past (x ∷ xs) d (suc j) h = past xs d j (omega arith)
-
 -- Signed numbers, by their bits.
 pub same_bits : {y z : ℤ} → SFits w64 y → SFits w64 z → of_z w64 y ≡ of_z w64 z → y ≡ z
 same_bits {y} {z} f g e = sym (to_z-of_z w64 y f) ∙ (ap (to_z w64) e ∙ to_z-of_z w64 z g)
 
-pub lower_yes : {y z : ℤ} → SFits w64 y → SFits w64 z → lt_z (to_z w64 (of_z w64 y)) (to_z w64 (of_z w64 z)) ≡ true → y <ℤ z
-lower_yes {y} {z} f g e = lt_z_yes (subst T (sym (sym (λ i. lt_z (to_z-of_z w64 y f i) (to_z-of_z w64 z g i)) ∙ e)) tt)
-
-pub lower_no : {y z : ℤ} → SFits w64 y → SFits w64 z → lt_z (to_z w64 (of_z w64 y)) (to_z w64 (of_z w64 z)) ≡ false → y <ℤ z → ⊥
-lower_no {y} {z} f g e h = subst T (sym (λ i. lt_z (to_z-of_z w64 y f i) (to_z-of_z w64 z g i)) ∙ e) h.lt
-
-pub lower_at_equal : {y z y' z' : ℤ} → y ≡ y' → z ≡ z' → y <ℤ z → y' <ℤ z'
-lower_at_equal {y} {z} {y'} {z'} p q h = subst (λ (x : ℤ). y' <ℤ x) q (subst (λ (x : ℤ). x <ℤ z) p h)
-
 pub zero_fits : SFits w64 (pos 0)
 zero_fits = record { sfits = omega arith }
 
-on : (b : Bool) {X : Type 0} (x y : X) → b ≡ true → cond b x y ≡ x
-on true x y e = refl
-on false x y e = absurd (not_false_and_true refl e)
-
-off : (b : Bool) {X : Type 0} (x y : X) → b ≡ false → cond b x y ≡ y
-off false x y e = refl
-off true x y e = absurd (not_false_and_true e refl)
-
--- below the lowest cut, above the highest, and between
-low : (z : ℤ) → lt_z z (negsuc 4294967295) ≡ true → cut_position z ≡ 0
-low (pos n) e = absurd (not_false_and_true refl e)
-low (negsuc n) e = omega (arith, ltb-true 4294967295 n e)
-
-high : (z : ℤ) → lt_z (pos 4294967295) z ≡ true → cut_position z ≡ 0
-high (pos n) e = off (ltb n 4294967296) (n + 4294967297) 0 (le-ltb n 4294967296 (omega (arith, ltb-true 4294967295 n e)))
-high (negsuc n) e = absurd (not_false_and_true refl e)
-
-pub record Mid (z : ℤ) : Type 0 where
-  pub sum : z +ℤ pos 4294967297 ≡ pos (cut_position z)
-  pub small : cut_position z < 8589934593
-
-mid : (z : ℤ) → lt_z z (negsuc 4294967295) ≡ false → lt_z (pos 4294967295) z ≡ false → Mid z
-mid (pos n) l h =
-    let b : n ≤ 4294967295 = ltb-false 4294967295 n h in
-    let e : cond (ltb n 4294967296) (n + 4294967297) 0 ≡ n + 4294967297 = on (ltb n 4294967296) (n + 4294967297) 0 (lt-ltb n 4294967296 (omega arith)) in
-    record { sum = ap pos (sym e); small = omega arith }
-mid (negsuc n) l h =
-    let b : n ≤ 4294967295 = ltb-false 4294967295 n l in
-    let e : 4294967297 - suc n ≡ 4294967296 - n = omega arith in
-    record { sum = off (ltb 4294967297 (suc n)) (negsuc (suc n - suc 4294967297)) (pos (4294967297 - suc n)) (le-ltb 4294967297 (suc n) (omega arith)) ∙ ap pos e; small = omega arith }
-
-module _ (z : ℤ) (f : SFits w64 z) where
-  plain : to_z w64 (of_z w64 z) ≡ z
-  plain = to_z-of_z w64 z f
-
-  pub cut_position_low : lt_z (to_z w64 (of_z w64 z)) (negsuc 4294967295) ≡ true → cut_position z ≡ 0
-  cut_position_low e = low z (subst (λ (y : ℤ). lt_z y (negsuc 4294967295) ≡ true) plain e)
-
-  pub cut_position_high : lt_z (pos 4294967295) (to_z w64 (of_z w64 z)) ≡ true → cut_position z ≡ 0
-  cut_position_high e = high z (subst (λ (y : ℤ). lt_z (pos 4294967295) y ≡ true) plain e)
-
-  module _ (l : lt_z (to_z w64 (of_z w64 z)) (negsuc 4294967295) ≡ false) (h : lt_z (pos 4294967295) (to_z w64 (of_z w64 z)) ≡ false) where
-    pub cut_position_mid : Mid z
-    cut_position_mid = mid z (subst (λ (y : ℤ). lt_z y (negsuc 4294967295) ≡ false) plain l) (subst (λ (y : ℤ). lt_z (pos 4294967295) y ≡ false) plain h)
-
-    sum : to_z w64 (of_z w64 z) +ℤ pos 4294967297 ≡ pos (cut_position z)
-    sum = ap (λ (y : ℤ). y +ℤ pos 4294967297) plain ∙ cut_position_mid.sum
-
-    fits : SFits w64 (pos (cut_position z))
-    fits = record { sfits = omega (arith, cut_position_mid.small) }
-
-    pub cut_position_fits : SFits w64 (to_z w64 (of_z w64 z) +ℤ pos 4294967297)
-    cut_position_fits = subst (SFits w64) (sym sum) fits
-
-    pub cut_position_sum : to_z w64 (of_z w64 (to_z w64 (of_z w64 z) +ℤ pos 4294967297)) ≡ pos (cut_position z)
-    cut_position_sum = ap (λ (s : ℤ). to_z w64 (of_z w64 s)) sum ∙ to_z-of_z w64 (pos (cut_position z)) fits
-
 pub get_d_at_equal : (xs : List ℕ) (a b : ℕ) → a ≡ b → get_or xs a 0 ≡ get_or xs b 0
 get_d_at_equal xs a b e = ap (λ (i : ℕ). get_or xs i 0) e
-
-pub above : {a b a' b' : ℕ} → a' ≡ a → b' ≡ b → b' ≤ a' → a < b → ⊥
-above p q h l = omega arith
-
-pub above_yes : {a b a' b' : ℕ} → a' ≡ a → b' ≡ b → a' < b' → a < b
-above_yes p q h = omega arith
 
 -- the next step of a definition that recurses on suc
 pub below_next : (cuts : List ℤ) (e j : ℕ) → below cuts e (j + 1) ≡ cut_position (cut_at cuts (e + j))
@@ -176,9 +96,6 @@ pub hash_lt : (children : List ℕ) (cuts : List ℤ) (v e j : ℕ) → hash_to 
 unfolding hash_to
 hash_lt children cuts v e zero = omega arith
 hash_lt children cuts v e (suc j) = omega arith
-
-pub product_fits : (h r : ℕ) → h < 4294967296 → r ≤ 4096 → h * r ≤ 17592186044416
-product_fits h r a b = let x : h * r ≤ 4294967296 * 4096 = mul-le-mul (let y : h ≤ 4294967296 = omega arith in y) b in omega arith
 
 pub scaled_lt : (h r : ℕ) → h < 4294967296 → 0 < r → h * r / 4294967296 < r
 scaled_lt h r a b = let x : h * r < 4294967296 * r = mul-lt-mul_of_pos_right a b in omega arith
@@ -221,11 +138,6 @@ climbs_at_equal {cuts} {e} {n} {e'} {n'} q r s = subst (λ (i : ℕ). Climbs cut
 pub blank_at_equal : {cuts : List ℤ} {e e' : ℕ} → e ≡ e' → Blank cuts e → Blank cuts e'
 blank_at_equal {cuts} q s = subst (λ (i : ℕ). Blank cuts i) q s
 
-pub one : (n : ℕ) → (n ≡ 0 → ⊥) → n < 2 → n ≡ 1
-one zero f h = absurd (f refl)
-one (suc zero) f h = refl
-one (suc (suc n)) f h = absurd (omega arith)
-
 pub tally_next : (F : ℕ → ℕ) (n : ℕ) → tally F (n + 1) ≡ tally F n + some (F n)
 unfolding tally
 tally_next F n = ap (tally F) (add-one n)
@@ -233,33 +145,6 @@ tally_next F n = ap (tally F) (add-one n)
 pub tally_none : (F : ℕ → ℕ) → tally F 0 ≡ 0
 unfolding tally
 tally_none F = refl
-
-pub some_one : (n : ℕ) → (n ≡ 0 → ⊥) → 1 ≡ some n
-some_one zero f = absurd (f refl)
-some_one (suc n) f = refl
-
--- Places.
-place_low : (z : ℤ) → lt_z z (negsuc 4294967296) ≡ true → Place z → ⊥
-place_low (pos n) e p = not_false_and_true refl e
-place_low (negsuc n) e p = omega (arith, ltb-true 4294967296 n e, leb→le n (2 ^ 32) p.0.le)
-
-place_high : (z : ℤ) → lt_z (pos 4294967295) z ≡ true → Place z → ⊥
-place_high (pos n) e p = omega (arith, ltb-true 4294967295 n e, leb→le n (2 ^ 32 - 1) p.1.le)
-place_high (negsuc n) e p = not_false_and_true refl e
-
-place_mid : (z : ℤ) → lt_z z (negsuc 4294967296) ≡ false → lt_z (pos 4294967295) z ≡ false → Place z
-place_mid (pos n) l h = (le_z_yes tt, record { le = le→leb n (2 ^ 32 - 1) (ltb-false 4294967295 n h) })
-place_mid (negsuc n) l h = (record { le = le→leb n (2 ^ 32) (ltb-false 4294967296 n l) }, le_z_yes tt)
-
-module _ (z : ℤ) (f : SFits w64 z) where
-  pub below_places : lt_z (to_z w64 (of_z w64 z)) (negsuc 4294967296) ≡ true → Place z → ⊥
-  below_places e = place_low z (subst (λ (y : ℤ). lt_z y (negsuc 4294967296) ≡ true) (to_z-of_z w64 z f) e)
-
-  pub above_places : lt_z (pos 4294967295) (to_z w64 (of_z w64 z)) ≡ true → Place z → ⊥
-  above_places e = place_high z (subst (λ (y : ℤ). lt_z (pos 4294967295) y ≡ true) (to_z-of_z w64 z f) e)
-
-  pub among_places : lt_z (to_z w64 (of_z w64 z)) (negsuc 4294967296) ≡ false → lt_z (pos 4294967295) (to_z w64 (of_z w64 z)) ≡ false → Place z
-  among_places l h = place_mid z (subst (λ (y : ℤ). lt_z y (negsuc 4294967296) ≡ false) (to_z-of_z w64 z f) l) (subst (λ (y : ℤ). lt_z (pos 4294967295) y ≡ false) (to_z-of_z w64 z f) h)
 
 -- what a check that answers no has found
 pub judged_no : {st : Store} {index : List ℕ} {u e : ℕ} {b : Bool} → Judges st index u e b → b ≡ false → (u : ℕ) → SoundLent st index u → ⊥
@@ -276,7 +161,3 @@ no_bits f e = same_bits f zero_fits e
 
 pub zero_or : (a b : ℕ) → a ≡ 0 → b ≡ 0 → bit_or a b ≡ 0
 zero_or a b p q = omega (arith, or_add_and a b)
-
-pub some_of : (x : ℕ) → ((x ≡ 0) × (some x ≡ 0)) ⊎ ((0 < x) × (some x ≡ 1))
-some_of zero = inl (refl, refl)
-some_of (suc x) = inr (omega arith, refl)

@@ -6,7 +6,7 @@ use Prim.Native.Nat.{ℕ, suc, ◌+◌, ◌*◌, ◌<◌}
 use native.Mathlib.Omega.{arith}
 use Rattle.chains.specs.Local.{leads, follows}
 use Rattle.chains.specs.Row.{words}
-use Rattle.table.specs.Deciding.{Decides, holds, fails}
+use Rattle.std.specs.Prelude.{Decides}
 use Rattle.table.specs.Layout.{room, Store}
 use Rattle.table.specs.Indexed.{bucket_at, precedes}
 use Rattle.table.specs.Checking.{LinkedAt}
@@ -21,7 +21,7 @@ pub record Follows (st : Store) (index : List ℕ) (u n m : ℕ) : Type 0 where
 
 module _ (st : Store) (index : List ℕ) (u n : ℕ) where
   -- no node is before n: its bucket's word decides
-  pub first_linked : {b : ℕ} {r : Bool} → words index (room st.nodes * 2 + n) ≡ 0 → b ≡ bucket_at st n → Decides (words index b ≡ suc n) r → Decides (LinkedAt st index u n) r
+  pub first_linked : {b : ℕ} {r : Bool} → words index (room st.nodes * 2 + n) ≡ 0 → b ≡ bucket_at st n → Decides r (words index b ≡ suc n) → Decides r (LinkedAt st index u n)
   first_linked {b} e q d = laws.to d (λ h. leads e (sym (laws.get_d_at_equal index b (bucket_at st n) q) ∙ h)) (λ k. go k)
     where
       go : LinkedAt st index u n → words index b ≡ suc n
@@ -34,9 +34,9 @@ module _ (st : Store) (index : List ℕ) (u n : ℕ) where
     linked_follows (follows k p l f c o) = subst (Follows st index u n) (let i : k ≡ m = omega arith in i) (record { used = l; back = f; bucket = c; ordered = o })
 
     -- the last test is the order
-    pub order_linked : {r : Bool} → m < u → words index (room st.nodes + m) ≡ suc n → bucket_at st m ≡ bucket_at st n → r ≡ precedes st m n → Decides (LinkedAt st index u n) r
+    pub order_linked : {r : Bool} → m < u → words index (room st.nodes + m) ≡ suc n → bucket_at st m ≡ bucket_at st n → r ≡ precedes st m n → Decides r (LinkedAt st index u n)
     order_linked {r} l f c o = go r o
       where
-        go : (r : Bool) → r ≡ precedes st m n → Decides (LinkedAt st index u n) r
-        go true o = holds (follows m e l f c (sym o))
-        go false o = fails (λ k. laws.not_false_and_true (sym o) (linked_follows k).ordered)
+        go : (r : Bool) → r ≡ precedes st m n → Decides r (LinkedAt st index u n)
+        go true o = laws.holds (follows m e l f c (sym o))
+        go false o = laws.fails (λ k. laws.not_false_and_true (sym o) (linked_follows k).ordered)

@@ -5,6 +5,8 @@ use mathlib.Core.List.{List, ◌∷◌}
 use mathlib.Core.Logic.{⊎_elim}
 use Prim.Native.Nat.{ℕ, zero, suc, ◌+◌, ◌-◌, ◌≤◌, ◌<◌}
 use native.Mathlib.Omega.{arith}
+use borrow.Author.Tests.{lt-ltb, le-ltb}
+use lib.Dec.{ltb}
 use lib.IntN.{ℤ}
 use lib.Signed.{◌<ℤ◌}
 use Rattle.ranges.specs.Line.{Cut}
@@ -17,6 +19,15 @@ use Rattle.table.specs.Checking.{run_at}
 use Rattle.table.proofs.Laws as laws
 use Rattle.table.proofs.CutPositions.{cut_position_up, cut_position_down, zero_cut_lem}
 
+-- the first two numbers decide where they differ
+differs : {x y x' y' : ℕ} (xs ys : List ℕ) → x ≡ x' → y ≡ y' → (x ≡ y → ⊥) → ltb x y ≡ less (x' ∷ xs) (y' ∷ ys)
+differs {x} {y} xs ys p q d = (λ i. ltb (p i) (q i)) ∙ go (laws.lt_eq_or_gt _ _) (λ e. d (p ∙ (e ∙ sym q)))
+  where
+    go : {a b : ℕ} → laws.Order a b → (a ≡ b → ⊥) → ltb a b ≡ less (a ∷ xs) (b ∷ ys)
+    go {a} {b} (laws.less h) n = lt-ltb a b h ∙ sym (less_smaller _ _ _ _ h)
+    go {a} {b} (laws.equal e) n = absurd (n e)
+    go {a} {b} (laws.more h) n = le-ltb a b (omega arith) ∙ sym (less_larger _ _ _ _ h)
+
 -- The runs of edges, from edge j on.
 module _ (children : List ℕ) (cuts : List ℤ) where
   opens : (a j n : ℕ) → j < n → run_at children cuts a j (n - j) ≡ kid_at children (a + j) ∷ (cut_position (cut_at cuts (a + j)) ∷ run_at children cuts a (j + 1) (n - (j + 1)))
@@ -28,11 +39,8 @@ module _ (children : List ℕ) (cuts : List ℤ) where
     both : less (run_at children cuts a j (n - j)) (run_at children cuts b j (n - j)) ≡ less (kid_at children (a + j) ∷ (cut_position (cut_at cuts (a + j)) ∷ run_at children cuts a (j + 1) (n - (j + 1)))) (kid_at children (b + j) ∷ (cut_position (cut_at cuts (b + j)) ∷ run_at children cuts b (j + 1) (n - (j + 1))))
     both = λ i. less (opens a j n l i) (opens b j n l i)
 
-    pub child_smaller : kid_at children (a + j) < kid_at children (b + j) → less (run_at children cuts a j (n - j)) (run_at children cuts b j (n - j)) ≡ true
-    child_smaller h = both ∙ less_smaller _ _ _ _ h
-
-    pub child_larger : kid_at children (b + j) < kid_at children (a + j) → less (run_at children cuts a j (n - j)) (run_at children cuts b j (n - j)) ≡ false
-    child_larger h = both ∙ less_larger _ _ _ _ h
+    pub child_differs : {x y : ℕ} → x ≡ kid_at children (a + j) → y ≡ kid_at children (b + j) → (x ≡ y → ⊥) → ltb x y ≡ less (run_at children cuts a j (n - j)) (run_at children cuts b j (n - j))
+    child_differs p q d = differs _ _ p q d ∙ sym both
 
     module _ (e : kid_at children (a + j) ≡ kid_at children (b + j)) (y : Cut (cut_at cuts (a + j))) (z : Cut (cut_at cuts (b + j))) where
       pub cut_lower : cut_at cuts (a + j) <ℤ cut_at cuts (b + j) → less (run_at children cuts a j (n - j)) (run_at children cuts b j (n - j)) ≡ true
@@ -53,10 +61,6 @@ module _ (children : List ℕ) (cuts : List ℤ) where
               go (laws.equal h) = h
               go (laws.more h) = absurd (q (cut_position_down _ _ z y h))
 
-  -- all edges are left
-  pub all_left : (a b n : ℕ) → less (run_at children cuts a 0 n) (run_at children cuts b 0 n) ≡ less (run_at children cuts a 0 (n - 0)) (run_at children cuts b 0 (n - 0))
-  all_left a b n = let e : n ≡ n - 0 = omega arith in ap (λ (k : ℕ). less (run_at children cuts a 0 k) (run_at children cuts b 0 k)) e
-
   -- no edge is left: neither comes before the other
   pub none_left : (a b j n : ℕ) → n ≤ j → less (run_at children cuts a j (n - j)) (run_at children cuts b j (n - j)) ≡ false
   unfolding less run
@@ -64,31 +68,19 @@ module _ (children : List ℕ) (cuts : List ℤ) where
 
 -- Two nodes.
 module _ (st : Store) (m n : ℕ) where
-  pub hash_smaller : hash_at st m < hash_at st n → precedes st m n ≡ true
+  pub hash_differs : {g h : ℕ} → g ≡ hash_at st m → h ≡ hash_at st n → (g ≡ h → ⊥) → ltb g h ≡ precedes st m n
   unfolding key_at
-  hash_smaller h = less_smaller _ _ _ _ h
-
-  pub hash_larger : hash_at st n < hash_at st m → precedes st m n ≡ false
-  unfolding key_at
-  hash_larger h = less_larger _ _ _ _ h
+  hash_differs p q d = differs _ _ p q d
 
   module _ (e : hash_at st m ≡ hash_at st n) where
-    pub var_smaller : var_at st.nodes m < var_at st.nodes n → precedes st m n ≡ true
+    pub var_differs : {v w : ℕ} → v ≡ var_at st.nodes m → w ≡ var_at st.nodes n → (v ≡ w → ⊥) → ltb v w ≡ precedes st m n
     unfolding key_at
-    var_smaller h = less_equal _ _ _ _ e ∙ less_smaller _ _ _ _ h
-
-    pub var_larger : var_at st.nodes n < var_at st.nodes m → precedes st m n ≡ false
-    unfolding key_at
-    var_larger h = less_equal _ _ _ _ e ∙ less_larger _ _ _ _ h
+    var_differs p q d = differs _ _ p q d ∙ sym (less_equal _ _ _ _ e)
 
     module _ (d : var_at st.nodes m ≡ var_at st.nodes n) where
-      pub count_smaller : count_at st.nodes m < count_at st.nodes n → precedes st m n ≡ true
+      pub count_differs : {c k : ℕ} → c ≡ count_at st.nodes m → k ≡ count_at st.nodes n → (c ≡ k → ⊥) → ltb c k ≡ precedes st m n
       unfolding key_at
-      count_smaller h = less_equal _ _ _ _ e ∙ (less_equal _ _ _ _ d ∙ less_smaller _ _ _ _ h)
-
-      pub count_larger : count_at st.nodes n < count_at st.nodes m → precedes st m n ≡ false
-      unfolding key_at
-      count_larger h = less_equal _ _ _ _ e ∙ (less_equal _ _ _ _ d ∙ less_larger _ _ _ _ h)
+      count_differs p q f = differs _ _ p q f ∙ sym (less_equal _ _ _ _ e ∙ less_equal _ _ _ _ d)
 
       -- the edges decide
       pub edges_left : {a b c : ℕ} → a ≡ first_at st.nodes m → b ≡ first_at st.nodes n → c ≡ count_at st.nodes m → c ≡ count_at st.nodes n → precedes st m n ≡ less (run_at st.children st.cuts a 0 c) (run_at st.children st.cuts b 0 c)

@@ -34,9 +34,6 @@ module _ (children : List ℕ) (cuts : List ℤ) (p : ℕ) where
   abbrev pub rest : ℕ → ℕ → ℕ → ℕ
   rest e end j = select (edges_from children cuts (e + j) (end - j)) p
 
-  pub rest_none : (e end : ℕ) → rest e end 0 ≡ select (edges_from children cuts e end) p
-  rest_none e end = let a : e + 0 ≡ e = omega arith in let b : end - 0 ≡ end = omega arith in λ i. select (edges_from children cuts (a i) (b i)) p
-
   pub rest_stop : (e end j : ℕ) → j < end → p < cut_position (cut_at cuts (e + j)) → rest e end j ≡ kid_at children (e + j)
   rest_stop e end j l h = let a : end - j ≡ suc (end - (j + 1)) = omega arith in ap (λ (m : ℕ). select (edges_from children cuts (e + j) m) p) a ∙ stop (e + j) (end - (j + 1)) h
 

@@ -1,17 +1,17 @@
 -- What the functions behind the calls decide on the way. A reader of the promises needs none of it. Assumes nothing.
-use Rattle.std.specs.Prelude.{◌≡◌, Bool, true, false, cond, List, ℕ, zero, suc, ◌+◌, ◌-◌, ◌*◌, ◌≤◌, ◌<◌, ◌^◌, get_or, ℤ, pos}
+use Rattle.std.specs.Prelude.{◌≡◌, Bool, true, false, cond, List, Option, Some, None, ℕ, zero, suc, ◌+◌, ◌-◌, ◌*◌, ◌≤◌, ◌<◌, ◌^◌, get_or, ℤ, pos, Decides}
 use Rattle.chains.specs.Lexical.{run}
 use Rattle.chains.specs.Local.{tally, Linked}
 use Rattle.chains.specs.Row.{words, next_of, prev_of}
 use Rattle.diagram.specs.Pieces.{select}
 use Rattle.diagram.specs.Table.{first_boolean, is_range, Assignment}
-use Rattle.table.specs.Deciding.{Decides}
 use Rattle.table.specs.Layout.{var_at, count_at, first_at, kid_at, cut_at, room, start, cut_position, Store}
 use Rattle.table.specs.Indexed.{hash_to, hash_at, bucket_at, precedes}
 use Rattle.table.specs.Lent.{KidsStand, Rules, SoundRecords, SoundLent}
 use Rattle.ids.specs.Id.{KnownTo}
 use Rattle.table.specs.Held.{edges_from, edges_at}
 use Rattle.table.specs.Told.{bit}
+use Rattle.table.specs.declared.lent.Used.{Used}
 
 -- What cut j of a node has to be above: the cut before it; the first has only to be a cut.
 abbrev pub below : List ℤ → ℕ → ℕ → ℕ
@@ -23,15 +23,24 @@ pub record Climbs (cuts : List ℤ) (e count : ℕ) : Type 0 where
   pub rise : (j : ℕ) → j + 1 < count → below cuts e j < cut_position (cut_at cuts (e + j))
   pub last : cut_at cuts (e + (count - 1)) ≡ pos 0
 
+-- Where the code answers a hash, or none: whether there is one, and the hash, or 0.
+abbrev pub keeps : Option ℕ → Bool
+keeps (Some h) = true
+keeps None = false
+
+abbrev pub hash_in : Option ℕ → ℕ
+hash_in (Some h) = h
+hash_in None = 0
+
 -- One pass over a node's edges: whether they keep the rules, that for cuts being its kind's, and then their hash.
 pub record Passes (st : Store) (n v e count : ℕ) (rule : Type 0) (ok : Bool) (hash : ℕ) : Type 0 where
-  pub decides : Decides (KidsStand st.nodes st.children n v e count × rule) ok
+  pub decides : Decides ok (KidsStand st.nodes st.children n v e count × rule)
   pub hashed : ok ≡ true → hash ≡ hash_to st.children st.cuts v e count
   pub small : hash < 2 ^ 32
 
 -- Whether record n keeps the rules, and then its hash.
 pub record Keeps (st : Store) (n : ℕ) (ok : Bool) (hash : ℕ) : Type 0 where
-  pub decides : Decides (Rules st n) ok
+  pub decides : Decides ok (Rules st n)
   pub hashed : ok ≡ true → hash ≡ hash_to st.children st.cuts (var_at st.nodes n) (first_at st.nodes n) (count_at st.nodes n)
   pub small : hash < 2 ^ 32
 
@@ -62,6 +71,19 @@ pub record Rest (st : Store) (index : List ℕ) (u e : ℕ) : Type 0 where
 pub data Judges (st : Store) (index : List ℕ) (u e : ℕ) : Bool → Type 0 where
   sound : SoundLent st index u → e ≡ start st.nodes u → Judges st index u e true
   unsound : ((u : ℕ) → SoundLent st index u → ⊥) → Judges st index u e false
+
+-- Of the counts that the code answers for a sound table, if it is one.
+abbrev pub found : Option Used → Bool
+found (Some u) = true
+found None = false
+
+abbrev pub nodes_found : Option Used → ℕ
+nodes_found (Some u) = u.nodes
+nodes_found None = 0
+
+abbrev pub edges_found : Option Used → ℕ
+edges_found (Some u) = u.edges
+edges_found None = 0
 
 -- A reading as a position for each variable.
 unfoldable pub spots : List ℤ → ℕ → Assignment

@@ -1,6 +1,6 @@
 -- Lent tables: their words, when they are sound, what they hold, and what each call on them answers. Assumes nothing.
-pub mod Deciding
 pub mod Layout
+pub mod Lending
 pub mod Indexed
 pub mod Lent
 pub mod Held

@@ -1,6 +1,6 @@
 -- What each call answers, for every input: a case for each row of document 01, "When the kernel is told no", by its number. Assumes
 -- nothing.
-use Rattle.std.specs.Prelude.{◌≡◌, Bool, false, List, ℕ, ◌-◌, ◌/◌, ◌%◌, ◌<◌, ◌^◌, eqb, length, replicate, ℤ, pos}
+use Rattle.std.specs.Prelude.{◌≡◌, Bool, false, List, Result, Ok, Err, ℕ, ◌-◌, ◌/◌, ◌%◌, ◌<◌, ◌^◌, eqb, length, replicate, ℤ, pos}
 use Rattle.ids.specs.Id.{KnownTo}
 use Rattle.ranges.specs.Line.{Place}
 use Rattle.diagram.specs.Table.{first_boolean}
@@ -8,6 +8,9 @@ use Rattle.diagram.specs.Reading.{Reading, says}
 use Rattle.table.specs.Layout.{cut_at, start, Lengths, Store, store}
 use Rattle.table.specs.Lent.{SoundLent}
 use Rattle.table.specs.Held.{held}
+use Rattle.table.specs.declared.lent.Used.{Used}
+use Rattle.table.specs.declared.refusal.Refusal.{Refusal}
+use Rattle.table.specs.declared.refusal.Refusal.TheVariants.{WrongRoom, NotSound, UnknownId, WrongVariable, BeyondPlaces, NoRoom}
 
 -- The numbers of the table in document 01.
 abbrev pub done : ℕ
@@ -24,6 +27,39 @@ unknown_id = 3
 
 abbrev pub beyond_places : ℕ
 beyond_places = 5
+
+-- The numbers that only the calls which may add nodes give.
+abbrev pub wrong_variable : ℕ
+wrong_variable = 4
+
+abbrev pub no_room : ℕ
+no_room = 6
+
+-- The number of each refusal of the code, and of an answer, which is 0 where the code answers `Ok`.
+abbrev pub number_of : Refusal → ℕ
+number_of WrongRoom = wrong_room
+number_of NotSound = not_sound
+number_of UnknownId = unknown_id
+number_of WrongVariable = wrong_variable
+number_of BeyondPlaces = beyond_places
+number_of NoRoom = no_room
+
+abbrev pub number_in : {A : Type 0} → Result A Refusal → ℕ
+number_in (Ok x) = done
+number_in (Err e) = number_of e
+
+-- What stands beside a refusal: no used node and no used edge, and no.
+abbrev pub nodes_in : Result Used Refusal → ℕ
+nodes_in (Ok u) = u.nodes
+nodes_in (Err e) = 0
+
+abbrev pub edges_in : Result Used Refusal → ℕ
+edges_in (Ok u) = u.edges
+edges_in (Err e) = 0
+
+abbrev pub yes_in : Result Bool Refusal → Bool
+yes_in (Ok b) = b
+yes_in (Err e) = false
 
 -- A lent table as the calls get it: its lengths allowed,
 abbrev pub Allowed : Store → List ℕ → Type 0

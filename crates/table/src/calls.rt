@@ -1,95 +1,69 @@
 // The public calls on a lent table that make no node. None has a condition on its caller; each decides its number, its answer and every
 // word of every slice, for all contents of all slices.
-ghost use Rattle.table.specs.Told.{Checks, Freshens, Hears};
-ghost use Rattle.table.specs.Layout.{store};
+ghost use Rattle.table.specs.Told.{Checks, Freshens, Hears, number_in, nodes_in, edges_in, yes_in};
+ghost use Rattle.table.specs.Lending.{store_in, store_of, SameSlices};
 
-use super::fresh::{zero_cuts, zero_words};
+use super::lent::{Table, TableMut, Used};
 use super::limits::FIRST_BOOLEAN;
 use super::read::{are_places, reads};
+use super::refusal::Refusal;
 use super::sound::judge;
-use super::told::{BEYOND_PLACES, Checked, DONE, NOT_SOUND, Told, UNKNOWN_ID, WRONG_ROOM};
-use super::words::{lengths_allowed, wide};
+use super::words::lengths_allowed;
 use ids::NodeId;
 
-// Whether the table is sound: 0 with its used counts, or 1 or 2.
-pub fn check(nodes: &[u32], children: &[u32], cuts: &[i64], index: &[u32]) -> Checked
-    ensures { Checks (store nodes.now children.now cuts.now) index.now result.number result.nodes result.edges }
+// Whether the table is sound: its used counts, or refusal 1 or 2.
+#[tactic(auto, using(crate::proofs::Hearing::checks_it, crate::specs::Told::checked_1))]
+pub fn check(table: &Table) -> Result<Used, Refusal>
+    ensures { Checks (store_in table.now) table.now.index.now (number_in result) (nodes_in result) (edges_in result) }
 {
-    if !lengths_allowed(nodes.len(), children.len(), cuts.len(), index.len()) {
-        return Checked {
-            number: WRONG_ROOM,
-            nodes: 0,
-            edges: 0,
-        };
+    if !lengths_allowed(
+        table.nodes.len(),
+        table.children.len(),
+        table.cuts.len(),
+        table.index.len(),
+    ) {
+        return Err(Refusal::WrongRoom);
     }
-    let j = judge(nodes, children, cuts, index);
-    if !j.sound {
-        return Checked {
-            number: NOT_SOUND,
-            nodes: 0,
-            edges: 0,
-        };
-    }
-    Checked {
-        number: DONE,
-        nodes: j.nodes,
-        edges: j.edges,
-    }
+    judge(table).ok_or(Refusal::NotSound)
 }
 
-// Makes an empty table in the lent room, whatever it held: 0, or 1 where a length is not allowed.
-pub fn fresh(nodes: &mut [u32], children: &mut [u32], cuts: &mut [i64], index: &mut [u32]) -> u32
-    ensures { Freshens (store nodes.old children.old cuts.old) index.old result (store nodes.new children.new cuts.new) index.new }
+// Makes an empty table in the lent room, whatever it held; refusal 1 where a length is not allowed.
+#[tactic(auto, using(crate::proofs::Hearing::freshens_it, crate::specs::Told::freshened_1))]
+pub fn fresh(table: &mut TableMut) -> Result<(), Refusal>
+    ensures freshens { Freshens (store_of table.old) table.old.index.now (number_in result) (store_of table.new) table.new.index.now }
+    ensures same { SameSlices table.old table.new }
 {
-    if !lengths_allowed(nodes.len(), children.len(), cuts.len(), index.len()) {
-        return WRONG_ROOM;
+    if !lengths_allowed(
+        table.nodes.len(),
+        table.children.len(),
+        table.cuts.len(),
+        table.index.len(),
+    ) {
+        return Err(Refusal::WrongRoom);
     }
-    zero_words(nodes);
-    zero_words(children);
-    zero_cuts(cuts);
-    zero_words(index);
-    DONE
+    table.nodes.fill(0);
+    table.children.fill(0);
+    table.cuts.fill(0);
+    table.index.fill(0);
+    Ok(())
 }
 
 // What an id says under 32 places and 32 booleans; bit i of `bools` is variable 32 + i. Refusals 1, 2, 3 and 5.
-pub fn evaluate(
-    nodes: &[u32],
-    children: &[u32],
-    cuts: &[i64],
-    index: &[u32],
-    places: &[i64],
-    bools: u32,
-    id: NodeId,
-) -> Told
-    ensures { Hears (store nodes.now children.now cuts.now) index.now places.now bools id.0 result.number result.yes }
+#[tactic(auto, using(crate::proofs::Hearing::passed_check_sound, crate::proofs::Hearing::known_when_true))]
+pub fn evaluate(table: &Table, places: &[i64], bools: u32, id: NodeId) -> Result<bool, Refusal>
+    ensures { Hears (store_in table.now) table.now.index.now places.now bools id.0 (number_in result) (yes_in result) }
 {
     // A length too, and so refusal 1: it has to come before the check of the table, which may find 2.
     if places.len() != FIRST_BOOLEAN {
-        return Told {
-            number: WRONG_ROOM,
-            yes: false,
-        };
+        return Err(Refusal::WrongRoom);
     }
-    let c = check(nodes, children, cuts, index);
-    if c.number != DONE {
-        return Told {
-            number: c.number,
-            yes: false,
-        };
-    }
-    if !id.is_known(c.nodes as u32) {
-        return Told {
-            number: UNKNOWN_ID,
-            yes: false,
-        };
+    let used = check(table)?;
+    if !id.is_known(used.nodes as u32) {
+        return Err(Refusal::UnknownId);
     }
     // All 32, whether the id tests them or not: a refusal depends on what was lent, and not on the way down.
     if !are_places(places) {
-        return Told {
-            number: BEYOND_PLACES,
-            yes: false,
-        };
+        return Err(Refusal::BeyondPlaces);
     }
-    let yes = reads(nodes, children, cuts, places, wide(bools), id);
-    Told { number: DONE, yes }
+    Ok(reads(table, places, bools as usize, id))
 }

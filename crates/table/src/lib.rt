@@ -3,11 +3,11 @@
 #![tactic(auto)]
 
 pub mod calls;
-pub mod fresh;
 pub mod index;
+pub mod lent;
 pub mod limits;
 pub mod read;
+pub mod refusal;
 pub mod rules;
 pub mod sound;
-pub mod told;
 pub mod words;

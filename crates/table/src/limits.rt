@@ -16,6 +16,7 @@ pub const MEMO_WORDS: usize = 8;
 pub const MOST_EDGES: usize = 64;
 
 // Variables 0 to 31 are ranges, 32 to 63 booleans.
+// By number, and no enum: a record holds its variable as a word, and variables of both kinds stand in one order.
 pub const FIRST_BOOLEAN: usize = 32;
 
 pub const VARIABLES: usize = 64;

@@ -1,12 +1,14 @@
 // One record: what it must be by itself and against the records before it. Document 01, "A sound table", bullets 1, 2, 3 and 5.
 ghost use Rattle.std.specs.Prelude.{◌≡◌, ◌+◌, ◌-◌, ◌*◌, ◌<◌, ◌≤◌, length};
-ghost use Rattle.table.specs.Deciding.{Decides};
+ghost use Rattle.std.specs.Prelude.{Decides};
 ghost use Rattle.diagram.specs.Table.{variables, most_edges};
-ghost use Rattle.table.specs.Layout.{var_at, start, store};
+ghost use Rattle.table.specs.Layout.{var_at, start};
+ghost use Rattle.table.specs.Lending.{store_in};
 ghost use Rattle.table.specs.Lent.{Stands, KidsStand, Blank};
-ghost use Rattle.table.specs.Checking.{Climbs, Passes, Keeps};
+ghost use Rattle.table.specs.Checking.{Climbs, Passes, Keeps, keeps, hash_in};
 
 use super::index::{hash_of, mixed};
+use super::lent::Table;
 use super::limits::{FIRST_BOOLEAN, MOST_EDGES, VARIABLES};
 use super::words::{
     blank_at, child_at, count_of, cut_position_at, first_of, one_for, spare_of, var_of,
@@ -27,17 +29,11 @@ pub fn var_below(nodes: &[u32], at: usize) -> usize
 // Whether child c is a terminal, or a node before n whose variable is later than v.
 pub fn child_stands(nodes: &[u32], n: usize, v: usize, c: usize) -> bool
     requires { (n * 4 + 4 ≤ length nodes.now) × (v < variables) }
-    ensures { Decides (Stands nodes.now n v c) result }
+    ensures { Decides result (Stands nodes.now n v c) }
 {
     let at = c / 2;
     // `at` is one more than the child's number, or 0 for a terminal. An earlier node's record was checked already, and may be read.
-    if n < at {
-        return false;
-    }
-    if var_below(nodes, at) <= v {
-        return false;
-    }
-    true
+    at <= n && v < var_below(nodes, at)
 }
 
 // Whether each child may stand there and differs from the one before it.
@@ -50,23 +46,18 @@ pub fn kids_stand(
     count: usize,
 ) -> bool
     requires { (n * 4 + 4 ≤ length nodes.now) × (v < variables) × (1 ≤ count) × (count ≤ most_edges) × (e + count ≤ length children.now) }
-    ensures { Decides (KidsStand nodes.now children.now n v e count) result }
+    ensures { Decides result (KidsStand nodes.now children.now n v e count) }
 {
     let mut last = child_at(children, e);
     if !child_stands(nodes, n, v, last) {
         return false;
     }
-    let mut j = 1;
-    while j < count {
+    for j in 1..count {
         let c = child_at(children, e + j);
-        if c == last {
-            return false;
-        }
-        if !child_stands(nodes, n, v, c) {
+        if c == last || !child_stands(nodes, n, v, c) {
             return false;
         }
         last = c;
-        j += 1;
     }
     true
 }
@@ -74,130 +65,91 @@ pub fn kids_stand(
 // Whether a boolean node has no cut.
 pub fn cuts_blank(cuts: &[i64], e: usize) -> bool
     requires { e + 2 ≤ length cuts.now }
-    ensures { Decides (Blank cuts.now e) result }
+    ensures { Decides result (Blank cuts.now e) }
 {
-    if !blank_at(cuts, e) {
-        return false;
-    }
-    if !blank_at(cuts, e + 1) {
-        return false;
-    }
-    true
+    blank_at(cuts, e) && blank_at(cuts, e + 1)
 }
 
-// Whether edges keep the rules, and then their hash.
-#[derive(Clone, Copy)]
-pub struct Seen {
-    pub ok: bool,
-    pub hash: usize,
-}
-
-// One pass over the edges of a range node.
-pub fn pass(
-    nodes: &[u32],
-    children: &[u32],
-    cuts: &[i64],
-    n: usize,
-    v: usize,
-    e: usize,
-    count: usize,
-) -> Seen
-    requires { (n * 4 + 4 ≤ length nodes.now) × (v < variables) × (1 ≤ count) × (count ≤ most_edges) × (e + count ≤ length children.now) × (length cuts.now ≡ length children.now) }
-    ensures { Passes (store nodes.now children.now cuts.now) n v e count (Climbs cuts.now e count) result.ok result.hash }
+// One pass over the edges of a range node: their hash, if they keep the rules.
+#[tactic(auto, using(crate::proofs::Laws::hash_none, crate::proofs::Laws::hash_next, crate::proofs::Laws::below_next))]
+pub fn pass(table: &Table, n: usize, v: usize, e: usize, count: usize) -> Option<usize>
+    requires { (n * 4 + 4 ≤ length table.now.nodes.now) × (v < variables) × (1 ≤ count) × (count ≤ most_edges) × (e + count ≤ length table.now.children.now) × (length table.now.cuts.now ≡ length table.now.children.now) }
+    ensures { Passes (store_in table.now) n v e count (Climbs table.now.cuts.now e count) (keeps result) (hash_in result) }
 {
     let end = count - 1;
-    let mut last = child_at(children, e);
-    if !child_stands(nodes, n, v, last) {
-        return Seen { ok: false, hash: 0 };
+    let mut last = child_at(table.children, e);
+    if !child_stands(table.nodes, n, v, last) {
+        return None;
     }
     let mut h = v;
     // A number that is no cut has position 0, so the test for rising cuts refuses it as well.
-    let mut low: usize = 0;
-    let mut j = 0;
-    while j < end {
-        let k = cut_position_at(cuts, e + j);
+    let mut low = 0;
+    for j in 0..end {
+        let k = cut_position_at(table.cuts, e + j);
         if k <= low {
-            return Seen { ok: false, hash: 0 };
+            return None;
         }
-        let c = child_at(children, e + (j + 1));
-        if c == last {
-            return Seen { ok: false, hash: 0 };
-        }
-        if !child_stands(nodes, n, v, c) {
-            return Seen { ok: false, hash: 0 };
+        let c = child_at(table.children, e + (j + 1));
+        if c == last || !child_stands(table.nodes, n, v, c) {
+            return None;
         }
         // Edge j is `last` up to this cut; `c` is the next edge's child. Hashed on the way, each word of an edge is read once.
         h = mixed(h, last, k);
         low = k;
         last = c;
-        j += 1;
     }
     // A word without a meaning is 0 all the same: so the rooms and the nodes of a table decide every word of it.
-    if !blank_at(cuts, e + end) {
-        return Seen { ok: false, hash: 0 };
+    if !blank_at(table.cuts, e + end) {
+        return None;
     }
-    let hash = mixed(h, last, ZERO as usize);
-    Seen {
-        ok: true,
-        hash: hash,
-    }
+    Some(mixed(h, last, ZERO as usize))
 }
 
 // One pass over the edges of a boolean node, high and low.
-pub fn pair(nodes: &[u32], children: &[u32], cuts: &[i64], n: usize, v: usize, e: usize) -> Seen
-    requires { (n * 4 + 4 ≤ length nodes.now) × (v < variables) × (e + 2 ≤ length children.now) × (length cuts.now ≡ length children.now) }
-    ensures { Passes (store nodes.now children.now cuts.now) n v e 2 (Blank cuts.now e) result.ok result.hash }
+pub fn pair(table: &Table, n: usize, v: usize, e: usize) -> Option<usize>
+    requires { (n * 4 + 4 ≤ length table.now.nodes.now) × (v < variables) × (e + 2 ≤ length table.now.children.now) × (length table.now.cuts.now ≡ length table.now.children.now) }
+    ensures { Passes (store_in table.now) n v e 2 (Blank table.now.cuts.now e) (keeps result) (hash_in result) }
 {
-    if !kids_stand(nodes, children, n, v, e, 2) {
-        return Seen { ok: false, hash: 0 };
+    if !kids_stand(table.nodes, table.children, n, v, e, 2) || !cuts_blank(table.cuts, e) {
+        return None;
     }
-    if !cuts_blank(cuts, e) {
-        return Seen { ok: false, hash: 0 };
-    }
-    let hash = hash_of(children, cuts, v, e, 2);
-    Seen {
-        ok: true,
-        hash: hash,
-    }
+    Some(hash_of(table.children, table.cuts, v, e, 2))
 }
 
-// Whether record n keeps the rules of a node, after records with e edges, and then its hash.
-pub fn rules_hold(nodes: &[u32], children: &[u32], cuts: &[i64], n: usize, e: usize) -> Seen
-    requires { (n * 4 + 4 ≤ length nodes.now) × (e ≡ start nodes.now n) × (e ≤ length children.now) × (length cuts.now ≡ length children.now) }
-    ensures { Keeps (store nodes.now children.now cuts.now) n result.ok result.hash }
+// The hash of record n, after records with e edges, if it keeps the rules of a node.
+#[tactic(auto, using(crate::proofs::CutPositions::cuts_from_climbs, crate::proofs::CutPositions::climbs_from_cuts))]
+pub fn rules_hold(table: &Table, n: usize, e: usize) -> Option<usize>
+    requires { (n * 4 + 4 ≤ length table.now.nodes.now) × (e ≡ start table.now.nodes.now n) × (e ≤ length table.now.children.now) × (length table.now.cuts.now ≡ length table.now.children.now) }
+    ensures { Keeps (store_in table.now) n (keeps result) (hash_in result) }
 {
-    let v = var_of(nodes, n);
-    let count = count_of(nodes, n);
-    let first = first_of(nodes, n);
+    let v = var_of(table.nodes, n);
+    let count = count_of(table.nodes, n);
     // No bullet of document 01 says this, but the record would be a node of no variable.
     if VARIABLES <= v {
-        return Seen { ok: false, hash: 0 };
+        return None;
     }
-    if count < 2 {
-        return Seen { ok: false, hash: 0 };
-    }
-    if MOST_EDGES < count {
-        return Seen { ok: false, hash: 0 };
+    if count < 2 || MOST_EDGES < count {
+        return None;
     }
     // The counts before this record decide the word; it is stored so that no reader has to add them up.
-    if first != e {
-        return Seen { ok: false, hash: 0 };
+    if first_of(table.nodes, n) != e {
+        return None;
     }
-    if children.len() - e < count {
-        return Seen { ok: false, hash: 0 };
+    if table.children.len() - e < count {
+        return None;
     }
-    if spare_of(nodes, n) != 0 {
-        return Seen { ok: false, hash: 0 };
+    if spare_of(table.nodes, n) != 0 {
+        return None;
     }
     // A node with every child negated says the opposite: were both allowed, one condition would have two ids.
-    if child_at(children, e) % 2 != 0 {
-        return Seen { ok: false, hash: 0 };
+    if child_at(table.children, e) % 2 != 0 {
+        return None;
     }
     if v < FIRST_BOOLEAN {
-        return pass(nodes, children, cuts, n, v, e, count);
+        return pass(table, n, v, e, count);
     }
     if count != 2 {
-        return Seen { ok: false, hash: 0 };
+        return None;
     }
-    pair(nodes, children, cuts, n, v, e)
+    pair(table, n, v, e)
 }

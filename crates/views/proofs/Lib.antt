@@ -1,3 +1,2 @@
 -- The laws behind views. Assumes nothing.
-pub mod Tests
 pub mod Sights

@@ -13,8 +13,8 @@ use Rattle.algebra.specs.Making.{create_node}
 use Rattle.views.specs.declared.View.{View}
 use Rattle.views.specs.Seeing.{Asked, Inside, child_seen, seen}
 use Rattle.views.proofs.Sights.{child_seen_stays, inside_wider, known_used}
-use Rattle.making.specs.declared.nodes.Used.{Used}
-use Rattle.making.specs.declared.nodes.Made.{Made}
+use Rattle.table.specs.declared.lent.Used.{Used}
+use Rattle.making.specs.Made.{Made}
 use Rattle.making.specs.Outcome.{Outcome, table_of}
 use Rattle.making.proofs.Kept.{edges_inside}
 use Rattle.walks.specs.Walking.{Note, Ready, Stepped, Sides, both}

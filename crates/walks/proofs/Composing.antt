@@ -14,8 +14,8 @@ use Rattle.table.specs.Layout.{most_nodes, room, Store}
 use Rattle.table.proofs.Laws.{not_false_and_true}
 use Rattle.table.proofs.Bridge.{sound_held}
 use Rattle.merging.proofs.Fitting.{fits_before}
-use Rattle.making.specs.declared.nodes.Used.{Used}
-use Rattle.making.specs.declared.nodes.Made.{Made}
+use Rattle.table.specs.declared.lent.Used.{Used}
+use Rattle.making.specs.Made.{Made}
 use Rattle.making.specs.Outcome.{Lent, Outcome, table_of}
 use Rattle.making.proofs.Kept.{stays_refl, stays_trans, stays_continues}
 use Rattle.making.proofs.Taken.{cuts_as_long, index_as_long}

@@ -8,8 +8,8 @@ use Rattle.ids.specs.declared.NodeId.{NodeId}
 use Rattle.diagram.specs.Table.{Table}
 use Rattle.table.specs.Layout.{room, MemoLengths, Store}
 use Rattle.table.proofs.Laws.{not_false_and_true}
-use Rattle.making.specs.declared.nodes.Used.{Used}
-use Rattle.making.specs.declared.nodes.Made.{Made}
+use Rattle.table.specs.declared.lent.Used.{Used}
+use Rattle.making.specs.Made.{Made}
 use Rattle.making.specs.Outcome.{Lent, Outcome, Creates, table_of}
 use Rattle.making.proofs.Taken.{taken_back_untouched, outcome_when_taken_back}
 use Rattle.memo.specs.Recalling.{Framed, Memo, Cleared}

@@ -2,7 +2,8 @@
 use mathlib.Core.Path.{◌≡◌, refl, sym, ◌∙◌, ap, ap₂, subst}
 use mathlib.Core.Bool.{Bool, true, false, cond}
 use mathlib.Core.List.{List}
-use mathlib.Core.Logic.{⊎_elim}
+use mathlib.Core.Logic.{◌⊎◌, inl, inr, ⊎_elim}
+use native.Mathlib.Decide.{ℕ_discrete}
 use Prim.Native.Nat.{ℕ, suc, ◌+◌, ◌-◌, ◌/◌, ◌≤◌, ◌<◌}
 use native.Mathlib.Omega.{arith}
 use lib.Dec.{ltb}
@@ -32,8 +33,8 @@ use Rattle.views.specs.Seeing.{Asked, Inside, beyond, child_seen, cut_seen, seen
 use Rattle.views.proofs.Sights.{seen_last, seen_cut, rising_cut, child_seen_stays, cut_seen_stays, cut_seen_range, first_seen}
 use Rattle.making.specs.declared.edges.Edge.{Edge}
 use Rattle.making.specs.declared.edges.Edges as built
-use Rattle.making.specs.declared.nodes.Used.{Used}
-use Rattle.making.specs.declared.nodes.Made.{Made}
+use Rattle.table.specs.declared.lent.Used.{Used}
+use Rattle.making.specs.Made.{Made}
 use Rattle.making.specs.Building.{none, child_in, cut_in, pieces_of}
 use Rattle.making.specs.Outcome.{Stays, Outcome, Buildable, table_of}
 use Rattle.making.proofs.Kept.{stays_refl, stays_trans, stays_continues}
@@ -46,6 +47,15 @@ use Rattle.making.proofs.Slots.{slot_for_is}
 -- What is known of a side's cut as the code reads it: its own, or past each position at the last edge.
 abbrev pub CutRead : List ℤ → View → ℕ → ℕ → Type 0
 CutRead cuts w j k = (j + 1 < w.count → k ≡ cut_seen cuts 0 w j) × (w.count ≤ j + 1 → k ≡ beyond) × (k ≤ beyond)
+
+-- Some slot is the next one, whatever the child.
+pub slot_exists : (len final id : ℕ) → (s : ℕ) × (0 < len → final ≡ id → s ≡ len - 1) × ((0 < len → final ≡ id → ⊥) → s ≡ len)
+slot_exists len final id = go (lt_or_le 0 len) (ℕ_discrete final id)
+  where
+    go : (0 < len) ⊎ (len ≤ 0) → Dec (final ≡ id) → (s : ℕ) × (0 < len → final ≡ id → s ≡ len - 1) × ((0 < len → final ≡ id → ⊥) → s ≡ len)
+    go (inl l) (yes e) = (len - 1, λ m f. refl, λ n. absurd (n l e))
+    go (inl l) (no n) = (len, λ m f. absurd (n f), λ k. refl)
+    go (inr g) d = (len, λ m f. omega arith, λ k. refl)
 
 -- The edges that are left on both sides, while there is more to do.
 abbrev pub edges_still_ahead : View → View → ℕ → ℕ → Bool → ℕ
@@ -90,6 +100,19 @@ module _ {v n : ℕ} (W : Walk v n) (h : Used) (st : Store) (memo : List ℕ) (a
     pub at : more ≡ true → At (table_of now st') out final len i j
     pub built_all : more ≡ false → ok ≡ true → Built (table_of now st') out len
     pub full : more ≡ false → ok ≡ false → Fits (room st.nodes) (length st.children) want.0 → ⊥
+
+  -- The edges' number is written in them, or not.
+  pub loop_any_len : {now : Used} {st' : Store} {index' memo' : List ℕ} {out : built.Edges} {final : NodeId} {len i j : ℕ} {ok more : Bool} (n : ℕ) → Loop now st' index' memo' out final len i j ok more
+      → Loop now st' index' memo' (record { list = out.list; len = n }) final len i j ok more
+  loop_any_len n l = record {
+    ready = l.ready;
+    stays = l.stays;
+    long = l.long;
+    size = l.size;
+    at = λ q. let x = l.at q in record { left_in = x.left_in; right_in = x.right_in; most = x.most; last_is = x.last_is; left_kids = x.left_kids; right_kids = x.right_kids; going = x.going };
+    built_all = λ q o. let x = l.built_all q o in record { some = x.some; most = x.most; table = x.table; pieces = x.pieces };
+    full = l.full;
+  }
 
   module _ {index : List ℕ} (r : Ready W.note h st index memo) (s : Sides t h.edges st.children st.cuts v n a b) (range : v < first_boolean) where
     pub loop_starts : (out : built.Edges) → length out.list ≡ most_edges → (final : NodeId) → Loop h st index memo out final 0 0 0 true true
@@ -323,6 +346,14 @@ module _ {v n : ℕ} (W : Walk v n) (h : Used) (st : Store) (memo : List ℕ) (a
 
                 other : 0 < len → child_in out (len - 1) ≡ (f u (first (A i), first (B j))).1 → ⊥
                 other g e = fresh g (here.last_is g ∙ (e ∙ (ap (λ (w : Table × ℕ). w.1) first_pair ∙ sym (c.outcome.id good))))
+
+            -- The children have no room, and the merge is left.
+            pub stepped_no_child : m.ok ≡ false → (id : NodeId) → Stepped W.note h want (record { ok = false; id = id; used = m.used }) st memo st₂ index₂ memo₂
+            stepped_no_child bad id = record {
+              outcome = record { lent = (ready_after_step l.ready c).lent; stays = stays_trans l.stays c.outcome.stays; table = λ e. absurd (not_false_and_true refl e); id = λ e. absurd (not_false_and_true refl e); full = λ e. no_child bad };
+              long = c.long ∙ l.long;
+              recalled = c.recalled;
+            }
 
             pub slot_inside : {ok₂ more₂ : Bool} {slot z dl dr : ℕ} → Advances m.ok slot₀ k q ok₂ more₂ slot z dl dr → slot < most_edges
             slot_inside (stopped x) = omega arith

@@ -1,5 +1,5 @@
 -- What a step down a lent table asks and leaves, whatever the operation. Assumes nothing.
-use Rattle.std.specs.Prelude.{◌≡◌, Bool, true, false, List, ℕ, suc, ◌+◌, ◌<◌, ◌≤◌, ltb, length, ℤ}
+use Rattle.std.specs.Prelude.{◌≡◌, Bool, true, false, List, Result, Ok, Err, ℕ, suc, ◌+◌, ◌<◌, ◌≤◌, ltb, length, ℤ}
 use Rattle.diagram.specs.Pieces.{Pieces}
 use Rattle.diagram.specs.Shape.{Each, Rising}
 use Rattle.diagram.specs.Table.{variables, top_of, Table, most_edges}
@@ -7,8 +7,14 @@ use Rattle.diagram.specs.Sound.{Child}
 use Rattle.algebra.specs.Overlay.{overlay}
 use Rattle.algebra.specs.Conjunction.{walk_in, create_over}
 use Rattle.table.specs.Layout.{room, MemoLengths, Store}
-use Rattle.making.specs.declared.nodes.Used.{Used}
-use Rattle.making.specs.declared.nodes.Made.{Made}
+use Rattle.table.specs.declared.lent.Used.{Used}
+use Rattle.making.specs.Made.{Made}
+use Rattle.ids.specs.declared.NodeId.{NodeId}
+use Rattle.making.specs.declared.room.NoRoom.{NoRoom}
+use Rattle.making.specs.declared.used.UsedTable.{UsedTable}
+use Rattle.making.specs.Made.{made}
+use Rattle.making.specs.Working.{stored}
+use Rattle.walks.specs.declared.steps.Step.{Step}
 use Rattle.making.specs.Outcome.{Lent, Outcome, Untouched, Creates, TakenBack, table_of}
 use Rattle.views.specs.declared.View.{View}
 use Rattle.views.specs.Seeing.{beyond, seen, Inside}
@@ -55,6 +61,15 @@ pub data Advances (ok : Bool) (slot k l : ℕ) : Bool → Bool → ℕ → ℕ �
   right : ok ≡ true → slot < most_edges → l < k → Advances ok slot k l true true slot l 0 1
   level : ok ≡ true → slot < most_edges → k ≡ l → Advances ok slot k l true (ltb k beyond) slot k 1 1
 
+-- Where the code answers a step, or no room: whether it goes on, and the step, or one of zeros.
+abbrev pub goes : Result Step NoRoom → Bool
+goes (Ok s) = true
+goes (Err e) = false
+
+abbrev pub step_in : Result Step NoRoom → Step
+step_in (Ok s) = s
+step_in (Err e) = record { more = false; slot = 0; cut = 0; left = 0; right = 0 }
+
 -- What is left of what was made: all of it; or, where there was no room, nothing after the first `keep` nodes.
 pub record Finishes (keep : ℕ) (m : Made) (st : Store) (index : List ℕ) (r : Made) (st' : Store) (index' : List ℕ) : Type 0 where
   pub kept : m.ok ≡ true → (r ≡ m) × Untouched st index st' index'
@@ -66,3 +81,14 @@ pub record Worked (h : Used) (want : Table × ℕ) (r : Made) (st : Store) (inde
   pub creates : Creates h want r st index st' index'
   pub long : length memo' ≡ length memo
   pub framed : Framed memo'
+
+-- The same of a sound table as the code is handed it: a memo that is lent with it, a step,
+abbrev pub Holds : Note → UsedTable → List ℕ → Type 0
+Holds P t memo = Ready P t.used (stored t) t.index.now memo
+
+abbrev pub Steps : Note → UsedTable → List ℕ → Table × ℕ → Result NodeId NoRoom → UsedTable → List ℕ → Type 0
+Steps P t memo want r t' memo' = Stepped P t.used want (made r t'.used) (stored t) memo (stored t') t'.index.now memo'
+
+-- and a whole operation.
+abbrev pub Works : UsedTable → List ℕ → Table × ℕ → Result NodeId NoRoom → UsedTable → List ℕ → Type 0
+Works t memo want r t' memo' = Worked t.used want (made r t'.used) (stored t) t.index.now memo (stored t') t'.index.now memo'

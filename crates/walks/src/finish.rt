@@ -1,33 +1,26 @@
 // The end of an operation.
 ghost use Rattle.std.specs.Prelude.{◌≤◌};
-ghost use Rattle.table.specs.Layout.{store};
-ghost use Rattle.making.specs.Outcome.{Lent};
+ghost use Rattle.making.specs.Made.{made};
+ghost use Rattle.making.specs.Working.{Sound, stored, SameSlices};
 ghost use Rattle.walks.specs.Walking.{Finishes};
 
 use ids::NodeId;
-use making::nodes::Made;
+use making::room::NoRoom;
 use making::undo::undo;
+use making::used::UsedTable;
 
 // Where there was no room, the nodes that were made on the way are taken back: "leaving nodes behind after "no room"" was a fault.
 pub fn finish(
-    nodes: &mut [u32],
-    children: &mut [u32],
-    cuts: &mut [i64],
-    index: &mut [u32],
-    m: Made,
+    table: &mut UsedTable,
+    answer: Result<NodeId, NoRoom>,
     keep: usize,
-) -> Made
-    requires { (Lent m.used (store nodes.old children.old cuts.old) index.old) × (keep ≤ m.used.nodes) }
-    ensures { Finishes keep m (store nodes.old children.old cuts.old) index.old result (store nodes.new children.new cuts.new) index.new }
+) -> Result<NodeId, NoRoom>
+    requires { (Sound table.old) × (keep ≤ table.old.used.nodes) }
+    ensures finishes { Finishes keep (made answer table.old.used) (stored table.old) table.old.index.now (made result table.new.used) (stored table.new) table.new.index.now }
+    ensures same { SameSlices table.old table.new }
 {
-    if m.ok {
-        return m;
+    if answer.is_err() {
+        undo(table, keep);
     }
-    let now = m.used;
-    let back = undo(nodes, children, cuts, index, now, keep);
-    Made {
-        ok: false,
-        id: NodeId::FALSE,
-        used: back,
-    }
+    answer
 }

@@ -1,14 +1,16 @@
 // The step of the edge merge, and the edge of a boolean variable.
-ghost use Rattle.std.specs.Prelude.{◌≡◌, cond, ◌-◌, ◌≤◌};
-ghost use Rattle.walks.specs.Walking.{Advances};
+ghost use Rattle.std.specs.Prelude.{◌≡◌, true, cond, ◌-◌, ◌≤◌};
+ghost use Rattle.walks.specs.Walking.{Advances, goes, step_in};
 
+use making::room::NoRoom;
+use std::cmp::Ordering;
 use table::limits::MOST_EDGES;
 use views::END;
 
 // How the merge goes on after one overlap: the slot and the cut of its edge, how far each side goes, and whether there is more.
+// `more` is a flag of its own: slot and cut are wanted at the last step too, so there is nothing for an `Option` to leave out.
 #[derive(Clone, Copy)]
 pub struct Step {
-    pub ok: bool,
     pub more: bool,
     pub slot: usize,
     pub cut: usize,
@@ -16,58 +18,38 @@ pub struct Step {
     pub right: usize,
 }
 
-impl Step {
-    // No room: the merge is left.
-    pub const STOPPED: Step = Step {
-        ok: false,
-        more: false,
-        slot: 0,
-        cut: 0,
-        left: 0,
-        right: 0,
-    };
-}
-
 // One overlap, of edges up to the cuts k and l, its own edge going into a slot. A 65th slot there is not.
-pub fn advance(ok: bool, slot: usize, k: usize, l: usize) -> Step
-    ensures { Advances ok slot k l result.ok result.more result.slot result.cut result.left result.right }
+pub fn advance(slot: usize, k: usize, l: usize) -> Result<Step, NoRoom>
+    ensures { let s = step_in result in Advances true slot k l (goes result) s.more s.slot s.cut s.left s.right }
 {
-    if !ok {
-        return Step::STOPPED;
-    }
     // Exact, though the merge is not done: edges are merged as they come, so their number never falls.
     if MOST_EDGES <= slot {
-        return Step::STOPPED;
+        return Err(NoRoom);
     }
-    // The nearer cut ends the overlap, and its side goes on; the edge of the other side reaches into the next overlap.
-    if k < l {
-        return Step {
-            ok: true,
+    // The nearer cut ends the overlap, and its side goes on; the edge of the other side reaches into the next overlap. Where both edges end,
+    // both go on: END is the cut of last edges alone, so there both sides are through.
+    match k.cmp(&l) {
+        Ordering::Less => Ok(Step {
             more: true,
             slot,
             cut: k,
             left: 1,
             right: 0,
-        };
-    }
-    if l < k {
-        return Step {
-            ok: true,
+        }),
+        Ordering::Greater => Ok(Step {
             more: true,
             slot,
             cut: l,
             left: 0,
             right: 1,
-        };
-    }
-    // Both edges end here. END is the cut of last edges alone, so there both sides are through.
-    Step {
-        ok: true,
-        more: k < END,
-        slot,
-        cut: k,
-        left: 1,
-        right: 1,
+        }),
+        Ordering::Equal => Ok(Step {
+            more: k < END,
+            slot,
+            cut: k,
+            left: 1,
+            right: 1,
+        }),
     }
 }
 
@@ -76,8 +58,5 @@ pub fn edge_of(count: usize, low: bool) -> usize
     requires { 1 ≤ count }
     ensures { result ≡ cond low (count - 1) 0 }
 {
-    if low {
-        return count - 1;
-    }
-    0
+    if low { count - 1 } else { 0 }
 }

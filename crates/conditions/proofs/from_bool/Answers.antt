@@ -8,6 +8,6 @@ pub create_pair-requires : goal.create_pair-requires
 create_pair-requires c = let pre· = c.requires in
     (pre·.0, pre·.1, pre·.2, child_terminal _ _ pre·.2 true, child_terminal _ _ pre·.2 false)
 
-pub returns : goal.returns
+pub returns-clause-makes : goal.returns-clause-makes
 unfolding from_bool
-returns c = c.create_pair.ensures
+returns-clause-makes c = c.create_pair.ensures.makes

@@ -1,7 +1,7 @@
 use mathlib.Core.Path.{◌≡◌}
 use mathlib.Core.Bool.{true}
 use Prim.Native.Nat.{◌+◌, ◌-◌, ◌*◌}
-use Rattle.table.specs.Layout.{store}
+use Rattle.table.specs.Lending.{store_in}
 use Rattle.disjointness.specs.Asking.{whole}
 use Rattle.disjointness.proofs.Walks.{Walked, Turned, Beside}
 use Rattle.disjointness.proofs.+disjoint.Given as goal
@@ -22,13 +22,10 @@ abbrev pub decreases-sides_disjoint : goal.decreases-sides_disjoint
 decreases-sides_disjoint l = l.ahead * 4 + 3
 
 abbrev pub invariant-ranges_disjoint-loop-j : goal.invariant-ranges_disjoint-loop-j
-invariant-ranges_disjoint-loop-j l = (l.answer ≡ true) × Beside (store l.nodes l.children l.cuts) l.initial.noted l.noted l.rest l.more (Walked l.ahead (whole (store l.nodes l.children l.cuts)) l.children l.cuts l.a l.b l.i l.j)
+invariant-ranges_disjoint-loop-j l = (l.answer ≡ true) × Beside (store_in l.table) l.fn.noted l.noted l.fn.rest l.rest (Walked l.ahead (whole (store_in l.table)) l.table.children.now l.table.cuts.now l.a l.b l.i l.j)
 
 abbrev pub decreases-ranges_disjoint-loop-j : goal.decreases-ranges_disjoint-loop-j
 decreases-ranges_disjoint-loop-j l = l.b.count - l.j
 
 abbrev pub invariant-ranges_disjoint-left : goal.invariant-ranges_disjoint-left
-invariant-ranges_disjoint-left l = (l.answer ≡ true) × Beside (store l.nodes l.children l.cuts) l.initial.noted l.noted l.rest l.more (Turned l.ahead (whole (store l.nodes l.children l.cuts)) l.children l.cuts l.a l.b l.i l.j)
-
-abbrev pub decreases-ranges_disjoint-left : goal.decreases-ranges_disjoint-left
-decreases-ranges_disjoint-left l = l.a.count - l.i
+invariant-ranges_disjoint-left l = (l.answer ≡ true) × Beside (store_in l.table) l.fn.noted l.noted l.fn.rest l.rest (Turned l.ahead (whole (store_in l.table)) l.table.children.now l.table.cuts.now l.a l.b l.i l.j)

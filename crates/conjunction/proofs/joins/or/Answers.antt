@@ -1,11 +1,11 @@
-use Rattle.making.specs.Outcome.{table_of}
-use Rattle.conjunction.proofs.Whole.{or_joined}
-use Rattle.table.specs.Layout.{store}
+use Rattle.making.proofs.Answered.{no_room_made}
+use Rattle.making.specs.Working.{table_in}
+use Rattle.conjunction.proofs.Whole.{or_joined, or_refused}
 use Rattle.conjunction.proofs.joins.or.Goals as goal
 
--- `joins::or` meets its contract: `and` of the complements, complemented. Assumes nothing.
-pub returns : goal.returns
-returns c = let the-args = c.args in
-    let not· = c.not in
-    let not2· = c.not-2 in
-    or_joined (table_of the-args.used (store the-args.nodes.now the-args.children.now the-args.cuts.now)) the-args.x.0 the-args.y.0 not·.result.0 not2·.result.0 not·.ensures not2·.ensures c.and-m.ensures _ c.not-3.ensures
+-- `and` of the complements, complemented.
+pub returns-in_err-id-clause-joins : goal.returns-in_err-id-clause-joins
+returns-in_err-id-clause-joins c = rw (no_room_made _ c.and.new.table.used c.from_residual.ensures.0) (or_refused (table_in c.args.table.now) c.args.x.0 c.args.y.0 c.not.result.0 c.not-2.result.0 c.not.ensures c.not-2.ensures c.in_err-id.ensures.joins)
+
+pub returns-clause-joins : goal.returns-clause-joins
+returns-clause-joins c = or_joined (table_in c.args.table.now) c.args.x.0 c.args.y.0 c.not.result.0 c.not-2.result.0 c.not.ensures c.not-2.ensures c.in_ok-id.ensures.joins _ c.not-3.ensures

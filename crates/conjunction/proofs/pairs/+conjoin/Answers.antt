@@ -1,155 +1,141 @@
-use mathlib.Core.Path.{refl, sym, ◌∙◌, subst}
-use mathlib.Core.Bool.{not}
-use Prim.Native.Nat.{ℕ, ◌≤◌, ◌<◌}
+use mathlib.Core.Path.{refl, sym, ◌∙◌, ap, subst}
+use mathlib.Core.Bool.{Bool, cond, not}
+use Prim.Native.Nat.{ℕ, ◌≤◌, ◌<◌, ◌+◌}
 use native.Mathlib.Omega.{arith}
-use lib.Dec.{eqb}
-use borrow.Author.Tests.{not-false, not-true}
+use borrow.Author.Tests.{eq-eqb, ne_eqb}
 use Rattle.views.proofs.Sights.{record_inside, call_left}
 use Rattle.ids.specs.Id.{KnownTo}
 use Rattle.memo.proofs.Recalled.{hit_was_noted, in_either_order}
+use Rattle.making.specs.Working.{stored}
+use Rattle.making.proofs.Answered.{no_room_made}
+use Rattle.making.proofs.Same.{same_refl, same_trans}
 use Rattle.walks.proofs.Composing.{ready_recalls, ready_readable, stepped_adds_nothing, stepped_with_note, ready_after_step, stepped_equal_want}
 use Rattle.conjunction.proofs.Asking.{entry_ordered, entry_as_given, conj_walk, opened_is, recalled_is, entry_of, left_node, right_node, sides, both_is, note_asked}
 use Rattle.conjunction.proofs.Ordering.{by_tests}
 use Rattle.walks.proofs.Halves.{half_inside}
 use Rattle.walks.proofs.Booleans.{inside_all_children, half_child_read, half_child_stays, first_asked, stepped_first_fails, second_asked, stepped_second_fails, both_are_children, stepped_pair_built}
-use Rattle.walks.proofs.Ranging.{loop_starts, both_asked, slot_inside, sides_small, loop_falls, loop_step, closed_buildable, stepped_when_closed}
-use Rattle.table.specs.Layout.{store}
+use Rattle.walks.proofs.Ranging.{loop_starts, both_asked, slot_inside, sides_small, loop_falls, loop_step, closed_buildable, stepped_when_closed, stepped_merge_fails, stepped_no_child, slot_exists, loop_any_len}
 use Rattle.conjunction.proofs.pairs.+conjoin.Goals as goal
 
 pub apply-child-x-requires : goal.apply-child-x-requires
-apply-child-x-requires t c = let back = not (eqb c.args.a.count c.args.b.count) in (inside_all_children c.requires.0 c.requires.1.left refl, subst (λ (x : ℕ). x < c.args.a.count) (sym c.edge_of.ensures) (half_inside c.args.a.count c.requires.1.left.some back))
+apply-child-x-requires t c = rw c.read-words.ensures.children (inside_all_children c.requires.0 c.requires.1.left refl, subst (λ (x : ℕ). x < c.args.a.count) (sym c.edge_of.ensures) (half_inside c.args.a.count c.requires.1.left.some _))
 
 pub apply-child-y-requires : goal.apply-child-y-requires
-apply-child-y-requires t c = let back = not (eqb c.args.a.count c.args.b.count) in (inside_all_children c.requires.0 c.requires.1.right refl, subst (λ (x : ℕ). x < c.args.b.count) (sym c.edge_of-2.ensures) (half_inside c.args.b.count c.requires.1.right.some back))
+apply-child-y-requires t c = rw c.read-words.ensures.children (inside_all_children c.requires.0 c.requires.1.right refl, subst (λ (x : ℕ). x < c.args.b.count) (sym c.edge_of-2.ensures) (half_inside c.args.b.count c.requires.1.right.some _))
 
-pub apply-conjoin-m-requires : goal.apply-conjoin-m-requires
-apply-conjoin-m-requires t c = let back = not (eqb c.args.a.count c.args.b.count) in let asked = first_asked (conj_walk _ _) c.requires.0 c.if-v-lt-FIRST_BOOLEAN.false c.requires.1 back (half_child_read _ c.args.a back c.child-x.ensures c.edge_of.ensures) (half_child_read _ c.args.b back c.child-y.ensures c.edge_of-2.ensures) in (omega (arith, c.decreases), (c.requires.0, asked.0, asked.1))
+pub apply-conjoin-requires : goal.apply-conjoin-requires
+apply-conjoin-requires t c = let asked = first_asked (conj_walk _ _) c.requires.0 c.if-v-lt-FIRST_BOOLEAN.false c.requires.1 _ (half_child_read _ c.args.a _ (rw c.read-words.ensures.children at c.child-x.ensures) c.edge_of.ensures) (half_child_read _ c.args.b _ (rw c.read-words.ensures.children at c.child-y.ensures) c.edge_of-2.ensures) in (omega (arith, c.decreases), (c.requires.0, asked.0, asked.1))
 
-pub apply-returns-then-not-m : goal.apply-returns-then-not-m
-apply-returns-then-not-m t c = let back = not (eqb c.args.a.count c.args.b.count) in by_tests c.args.used (store c.args.nodes.now c.args.children.now c.args.cuts.now) c.args.memo.now c.args.a c.args.b c.args.v c.args.ahead c.if-v-lt-FIRST_BOOLEAN.false (stepped_first_fails (conj_walk _ _) c.requires.0 c.if-v-lt-FIRST_BOOLEAN.false c.requires.1 back (half_child_read _ c.args.a back c.child-x.ensures c.edge_of.ensures) (half_child_read _ c.args.b back c.child-y.ensures c.edge_of-2.ensures) c.conjoin-m.ensures (not-true _ c.if-not-m.true))
+pub apply-returns-in_err-one-clause-steps : goal.apply-returns-in_err-one-clause-steps
+apply-returns-in_err-one-clause-steps t c = rw (no_room_made _ c.conjoin.new.table.used c.from_residual.ensures.0) (by_tests c.args.table.now.used (stored c.args.table.now) c.args.memo.now c.args.a c.args.b c.args.v c.args.ahead c.if-v-lt-FIRST_BOOLEAN.false (stepped_first_fails (conj_walk _ _) c.requires.0 c.if-v-lt-FIRST_BOOLEAN.false c.requires.1 _ (half_child_read _ c.args.a _ (rw c.read-words.ensures.children at c.child-x.ensures) c.edge_of.ensures) (half_child_read _ c.args.b _ (rw c.read-words.ensures.children at c.child-y.ensures) c.edge_of-2.ensures) c.in_err-one.ensures.steps refl))
 
 pub apply-child-x-requires-2 : goal.apply-child-x-requires-2
-apply-child-x-requires-2 t c = let back = not (eqb c.args.a.count c.args.b.count) in (inside_all_children c.requires.0 c.requires.1.left c.conjoin-m.ensures.outcome.stays.wide, subst (λ (x : ℕ). x < c.args.a.count) (sym c.edge_of-3.ensures) (half_inside c.args.a.count c.requires.1.left.some (not back)))
+apply-child-x-requires-2 t c = rw c.read-words-2.ensures.children (inside_all_children c.requires.0 c.requires.1.left c.in_ok-one.ensures.steps.outcome.stays.wide, subst (λ (x : ℕ). x < c.args.a.count) (sym c.edge_of-3.ensures) (half_inside c.args.a.count c.requires.1.left.some _))
 
 pub apply-child-y-requires-2 : goal.apply-child-y-requires-2
-apply-child-y-requires-2 t c = let back = not (eqb c.args.a.count c.args.b.count) in (inside_all_children c.requires.0 c.requires.1.right c.conjoin-m.ensures.outcome.stays.wide, subst (λ (x : ℕ). x < c.args.b.count) (sym c.edge_of-4.ensures) (half_inside c.args.b.count c.requires.1.right.some (not back)))
+apply-child-y-requires-2 t c = rw c.read-words-2.ensures.children (inside_all_children c.requires.0 c.requires.1.right c.in_ok-one.ensures.steps.outcome.stays.wide, subst (λ (x : ℕ). x < c.args.b.count) (sym c.edge_of-4.ensures) (half_inside c.args.b.count c.requires.1.right.some _))
 
-pub apply-conjoin-m-requires-2 : goal.apply-conjoin-m-requires-2
-apply-conjoin-m-requires-2 t c = let back = not (eqb c.args.a.count c.args.b.count) in let asked = second_asked (conj_walk _ _) c.requires.0 c.if-v-lt-FIRST_BOOLEAN.false c.requires.1 back (half_child_read _ c.args.a back c.child-x.ensures c.edge_of.ensures) (half_child_read _ c.args.b back c.child-y.ensures c.edge_of-2.ensures) c.conjoin-m.ensures (half_child_stays c.conjoin-m.ensures c.args.a (not back) c.requires.1.left c.child-x-2.ensures c.edge_of-3.ensures) (half_child_stays c.conjoin-m.ensures c.args.b (not back) c.requires.1.right c.child-y-2.ensures c.edge_of-4.ensures) in (omega (arith, c.decreases), (ready_after_step c.requires.0 c.conjoin-m.ensures, asked.0, asked.1))
+pub apply-conjoin-requires-2 : goal.apply-conjoin-requires-2
+apply-conjoin-requires-2 t c = let asked = second_asked (conj_walk _ _) c.requires.0 c.if-v-lt-FIRST_BOOLEAN.false c.requires.1 _ (half_child_read _ c.args.a _ (rw c.read-words.ensures.children at c.child-x.ensures) c.edge_of.ensures) (half_child_read _ c.args.b _ (rw c.read-words.ensures.children at c.child-y.ensures) c.edge_of-2.ensures) c.in_ok-one.ensures.steps (half_child_stays c.in_ok-one.ensures.steps c.args.a _ c.requires.1.left (rw c.read-words-2.ensures.children at c.child-x-2.ensures) c.edge_of-3.ensures) (half_child_stays c.in_ok-one.ensures.steps c.args.b _ c.requires.1.right (rw c.read-words-2.ensures.children at c.child-y-2.ensures) c.edge_of-4.ensures) in (omega (arith, c.decreases), (ready_after_step c.requires.0 c.in_ok-one.ensures.steps, asked.0, asked.1))
 
-pub apply-returns-then-not-m-2 : goal.apply-returns-then-not-m-2
-apply-returns-then-not-m-2 t c = let back = not (eqb c.args.a.count c.args.b.count) in by_tests c.args.used (store c.args.nodes.now c.args.children.now c.args.cuts.now) c.args.memo.now c.args.a c.args.b c.args.v c.args.ahead c.if-v-lt-FIRST_BOOLEAN.false (stepped_second_fails (conj_walk _ _) c.requires.0 c.if-v-lt-FIRST_BOOLEAN.false c.requires.1 back (half_child_read _ c.args.a back c.child-x.ensures c.edge_of.ensures) (half_child_read _ c.args.b back c.child-y.ensures c.edge_of-2.ensures) c.conjoin-m.ensures (not-false _ c.if-not-m.false) (half_child_stays c.conjoin-m.ensures c.args.a (not back) c.requires.1.left c.child-x-2.ensures c.edge_of-3.ensures) (half_child_stays c.conjoin-m.ensures c.args.b (not back) c.requires.1.right c.child-y-2.ensures c.edge_of-4.ensures) c.conjoin-m-2.ensures (not-true _ c.if-not-m-2.true))
+pub apply-returns-in_err-two-clause-steps : goal.apply-returns-in_err-two-clause-steps
+apply-returns-in_err-two-clause-steps t c = rw (no_room_made _ c.conjoin-2.new.table.used c.from_residual-in_err-two.ensures.0) (by_tests c.args.table.now.used (stored c.args.table.now) c.args.memo.now c.args.a c.args.b c.args.v c.args.ahead c.if-v-lt-FIRST_BOOLEAN.false (stepped_second_fails (conj_walk _ _) c.requires.0 c.if-v-lt-FIRST_BOOLEAN.false c.requires.1 _ (half_child_read _ c.args.a _ (rw c.read-words.ensures.children at c.child-x.ensures) c.edge_of.ensures) (half_child_read _ c.args.b _ (rw c.read-words.ensures.children at c.child-y.ensures) c.edge_of-2.ensures) c.in_ok-one.ensures.steps refl (half_child_stays c.in_ok-one.ensures.steps c.args.a _ c.requires.1.left (rw c.read-words-2.ensures.children at c.child-x-2.ensures) c.edge_of-3.ensures) (half_child_stays c.in_ok-one.ensures.steps c.args.b _ c.requires.1.right (rw c.read-words-2.ensures.children at c.child-y-2.ensures) c.edge_of-4.ensures) c.in_err-two.ensures.steps refl))
 
 pub apply-create_pair-requires : goal.apply-create_pair-requires
-apply-create_pair-requires t c = let back = not (eqb c.args.a.count c.args.b.count) in let kids = both_are_children (conj_walk _ _) c.requires.0 c.if-v-lt-FIRST_BOOLEAN.false c.requires.1 back (half_child_read _ c.args.a back c.child-x.ensures c.edge_of.ensures) (half_child_read _ c.args.b back c.child-y.ensures c.edge_of-2.ensures) c.conjoin-m.ensures (not-false _ c.if-not-m.false) (half_child_stays c.conjoin-m.ensures c.args.a (not back) c.requires.1.left c.child-x-2.ensures c.edge_of-3.ensures) (half_child_stays c.conjoin-m.ensures c.args.b (not back) c.requires.1.right c.child-y-2.ensures c.edge_of-4.ensures) c.conjoin-m-2.ensures (not-false _ c.if-not-m-2.false) c.first_unless-high.ensures c.first_unless-low.ensures in (c.conjoin-m-2.ensures.outcome.lent, c.if-v-lt-FIRST_BOOLEAN.false, c.requires.1.known, kids.0, kids.1)
+apply-create_pair-requires t c = let kids = both_are_children (conj_walk _ _) c.requires.0 c.if-v-lt-FIRST_BOOLEAN.false c.requires.1 _ (half_child_read _ c.args.a _ (rw c.read-words.ensures.children at c.child-x.ensures) c.edge_of.ensures) (half_child_read _ c.args.b _ (rw c.read-words.ensures.children at c.child-y.ensures) c.edge_of-2.ensures) c.in_ok-one.ensures.steps refl (half_child_stays c.in_ok-one.ensures.steps c.args.a _ c.requires.1.left (rw c.read-words-2.ensures.children at c.child-x-2.ensures) c.edge_of-3.ensures) (half_child_stays c.in_ok-one.ensures.steps c.args.b _ c.requires.1.right (rw c.read-words-2.ensures.children at c.child-y-2.ensures) c.edge_of-4.ensures) c.in_ok-two.ensures.steps refl (ap (λ (b : Bool). cond b c.in_ok-two.two.0 c.in_ok-one.one.0) (sym (ap not (ne_eqb _ _ c.if-back.true)))) (ap (λ (b : Bool). cond b c.in_ok-one.one.0 c.in_ok-two.two.0) (sym (ap not (ne_eqb _ _ c.if-back.true)))) in (c.in_ok-two.ensures.steps.outcome.lent, c.if-v-lt-FIRST_BOOLEAN.false, c.requires.1.known, kids.0, kids.1)
 
-pub apply-returns : goal.apply-returns
-apply-returns t c = let back = not (eqb c.args.a.count c.args.b.count) in by_tests c.args.used (store c.args.nodes.now c.args.children.now c.args.cuts.now) c.args.memo.now c.args.a c.args.b c.args.v c.args.ahead c.if-v-lt-FIRST_BOOLEAN.false (stepped_pair_built (conj_walk _ _) c.requires.0 c.if-v-lt-FIRST_BOOLEAN.false c.requires.1 back (half_child_read _ c.args.a back c.child-x.ensures c.edge_of.ensures) (half_child_read _ c.args.b back c.child-y.ensures c.edge_of-2.ensures) c.conjoin-m.ensures (not-false _ c.if-not-m.false) (half_child_stays c.conjoin-m.ensures c.args.a (not back) c.requires.1.left c.child-x-2.ensures c.edge_of-3.ensures) (half_child_stays c.conjoin-m.ensures c.args.b (not back) c.requires.1.right c.child-y-2.ensures c.edge_of-4.ensures) c.conjoin-m-2.ensures (not-false _ c.if-not-m-2.false) c.first_unless-high.ensures c.first_unless-low.ensures c.create_pair.ensures.outcome)
+pub apply-create_pair-requires-else-back : goal.apply-create_pair-requires-else-back
+apply-create_pair-requires-else-back t c = let kids = both_are_children (conj_walk _ _) c.requires.0 c.if-v-lt-FIRST_BOOLEAN.false c.requires.1 _ (half_child_read _ c.args.a _ (rw c.read-words.ensures.children at c.child-x.ensures) c.edge_of.ensures) (half_child_read _ c.args.b _ (rw c.read-words.ensures.children at c.child-y.ensures) c.edge_of-2.ensures) c.in_ok-one.ensures.steps refl (half_child_stays c.in_ok-one.ensures.steps c.args.a _ c.requires.1.left (rw c.read-words-2.ensures.children at c.child-x-2.ensures) c.edge_of-3.ensures) (half_child_stays c.in_ok-one.ensures.steps c.args.b _ c.requires.1.right (rw c.read-words-2.ensures.children at c.child-y-2.ensures) c.edge_of-4.ensures) c.in_ok-two.ensures.steps refl (ap (λ (b : Bool). cond b c.in_ok-two.two.0 c.in_ok-one.one.0) (sym (ap not (eq-eqb _ _ c.if-back.false)))) (ap (λ (b : Bool). cond b c.in_ok-one.one.0 c.in_ok-two.two.0) (sym (ap not (eq-eqb _ _ c.if-back.false)))) in (c.in_ok-two.ensures.steps.outcome.lent, c.if-v-lt-FIRST_BOOLEAN.false, c.requires.1.known, kids.0, kids.1)
+
+pub apply-returns-then-back-clause-steps : goal.apply-returns-then-back-clause-steps
+apply-returns-then-back-clause-steps t c = by_tests c.args.table.now.used (stored c.args.table.now) c.args.memo.now c.args.a c.args.b c.args.v c.args.ahead c.if-v-lt-FIRST_BOOLEAN.false (stepped_pair_built (conj_walk _ _) c.requires.0 c.if-v-lt-FIRST_BOOLEAN.false c.requires.1 _ (half_child_read _ c.args.a _ (rw c.read-words.ensures.children at c.child-x.ensures) c.edge_of.ensures) (half_child_read _ c.args.b _ (rw c.read-words.ensures.children at c.child-y.ensures) c.edge_of-2.ensures) c.in_ok-one.ensures.steps refl (half_child_stays c.in_ok-one.ensures.steps c.args.a _ c.requires.1.left (rw c.read-words-2.ensures.children at c.child-x-2.ensures) c.edge_of-3.ensures) (half_child_stays c.in_ok-one.ensures.steps c.args.b _ c.requires.1.right (rw c.read-words-2.ensures.children at c.child-y-2.ensures) c.edge_of-4.ensures) c.in_ok-two.ensures.steps refl (ap (λ (b : Bool). cond b c.in_ok-two.two.0 c.in_ok-one.one.0) (sym (ap not (ne_eqb _ _ c.if-back.true)))) (ap (λ (b : Bool). cond b c.in_ok-one.one.0 c.in_ok-two.two.0) (sym (ap not (ne_eqb _ _ c.if-back.true)))) c.create_pair.ensures.makes.outcome)
+
+pub apply-returns-else-back-clause-steps : goal.apply-returns-else-back-clause-steps
+apply-returns-else-back-clause-steps t c = by_tests c.args.table.now.used (stored c.args.table.now) c.args.memo.now c.args.a c.args.b c.args.v c.args.ahead c.if-v-lt-FIRST_BOOLEAN.false (stepped_pair_built (conj_walk _ _) c.requires.0 c.if-v-lt-FIRST_BOOLEAN.false c.requires.1 _ (half_child_read _ c.args.a _ (rw c.read-words.ensures.children at c.child-x.ensures) c.edge_of.ensures) (half_child_read _ c.args.b _ (rw c.read-words.ensures.children at c.child-y.ensures) c.edge_of-2.ensures) c.in_ok-one.ensures.steps refl (half_child_stays c.in_ok-one.ensures.steps c.args.a _ c.requires.1.left (rw c.read-words-2.ensures.children at c.child-x-2.ensures) c.edge_of-3.ensures) (half_child_stays c.in_ok-one.ensures.steps c.args.b _ c.requires.1.right (rw c.read-words-2.ensures.children at c.child-y-2.ensures) c.edge_of-4.ensures) c.in_ok-two.ensures.steps refl (ap (λ (b : Bool). cond b c.in_ok-two.two.0 c.in_ok-one.one.0) (sym (ap not (eq-eqb _ _ c.if-back.false)))) (ap (λ (b : Bool). cond b c.in_ok-one.one.0 c.in_ok-two.two.0) (sym (ap not (eq-eqb _ _ c.if-back.false)))) c.create_pair-else-back.ensures.makes.outcome)
 
 pub apply_ranges-loop-more-init : goal.apply_ranges-loop-more-init
-apply_ranges-loop-more-init t c = loop_starts (conj_walk _ _) c.args.used (store c.args.nodes.now c.args.children.now c.args.cuts.now) c.args.memo.now c.args.a c.args.b c.requires.0 c.requires.1 c.requires.2 c.new-out.result c.new-out.ensures.0 _
+apply_ranges-loop-more-init t c = (rw c.new-out.ensures.1 (loop_starts (conj_walk _ _) c.args.table.now.used (stored c.args.table.now) c.args.memo.now c.args.a c.args.b c.requires.0 c.requires.1 c.requires.2 (record { list = c.new-out.result.list; len = 0 }) c.new-out.ensures.0 _), same_refl _)
 
 pub apply_ranges-child-x-requires : goal.apply_ranges-child-x-requires
-apply_ranges-child-x-requires t c = let pre· = c.requires in
-    (inside_all_children pre·.0 pre·.1.left c.loop-more.invariant.stays.wide, (c.loop-more.invariant.at c.loop-more-test.true).left_in)
+apply_ranges-child-x-requires t c = rw c.read-words.ensures.children (inside_all_children c.requires.0 c.requires.1.left c.loop-more.invariant.0.stays.wide, (c.loop-more.invariant.0.at c.loop-more-test.true).left_in)
 
 pub apply_ranges-child-y-requires : goal.apply_ranges-child-y-requires
-apply_ranges-child-y-requires t c = let pre· = c.requires in
-    let loop· = c.loop-more in
-    (inside_all_children pre·.0 pre·.1.right loop·.invariant.stays.wide, (loop·.invariant.at c.loop-more-test.true).right_in)
+apply_ranges-child-y-requires t c = rw c.read-words.ensures.children (inside_all_children c.requires.0 c.requires.1.right c.loop-more.invariant.0.stays.wide, (c.loop-more.invariant.0.at c.loop-more-test.true).right_in)
 
 pub apply_ranges-cut-k-requires : goal.apply_ranges-cut-k-requires
-apply_ranges-cut-k-requires t c = let pre· = c.requires in
-    let loop· = c.loop-more in
-    (inside_all_children pre·.0 pre·.1.left (loop·.invariant.ready.lent.allowed.cut_each ∙ loop·.invariant.stays.wide), (loop·.invariant.at c.loop-more-test.true).left_in)
+apply_ranges-cut-k-requires t c = rw c.read-words.ensures.cuts (inside_all_children c.requires.0 c.requires.1.left (c.loop-more.invariant.0.ready.lent.allowed.cut_each ∙ c.loop-more.invariant.0.stays.wide), (c.loop-more.invariant.0.at c.loop-more-test.true).left_in)
 
 pub apply_ranges-cut-l-requires : goal.apply_ranges-cut-l-requires
-apply_ranges-cut-l-requires t c = let pre· = c.requires in
-    let loop· = c.loop-more in
-    (inside_all_children pre·.0 pre·.1.right (loop·.invariant.ready.lent.allowed.cut_each ∙ loop·.invariant.stays.wide), (loop·.invariant.at c.loop-more-test.true).right_in)
+apply_ranges-cut-l-requires t c = rw c.read-words.ensures.cuts (inside_all_children c.requires.0 c.requires.1.right (c.loop-more.invariant.0.ready.lent.allowed.cut_each ∙ c.loop-more.invariant.0.stays.wide), (c.loop-more.invariant.0.at c.loop-more-test.true).right_in)
 
-pub apply_ranges-conjoin-m-requires : goal.apply_ranges-conjoin-m-requires
-apply_ranges-conjoin-m-requires t c = let asked = both_asked (conj_walk _ _) c.args.used (store c.args.nodes.now c.args.children.now c.args.cuts.now) c.args.memo.now c.args.a c.args.b c.requires.0 c.requires.1 c.requires.2 c.loop-more.invariant c.loop-more-test.true c.child-x.ensures c.child-y.ensures in (omega (arith, c.decreases), (c.loop-more.invariant.ready, asked.0, asked.1))
+pub apply_ranges-conjoin-requires : goal.apply_ranges-conjoin-requires
+apply_ranges-conjoin-requires t c = let asked = both_asked (conj_walk _ _) c.args.table.now.used (stored c.args.table.now) c.args.memo.now c.args.a c.args.b c.requires.0 c.requires.1 c.requires.2 c.loop-more.invariant.0 c.loop-more-test.true (rw c.read-words.ensures.children at c.child-x.ensures) (rw c.read-words.ensures.children at c.child-y.ensures) in (omega (arith, c.decreases), (c.loop-more.invariant.0.ready, asked.0, asked.1))
 
-pub apply_ranges-offset_bounds-out-n : goal.apply_ranges-offset_bounds-out-n
-apply_ranges-offset_bounds-out-n t c = omega (arith, slot_inside (conj_walk _ _) c.args.used (store c.args.nodes.now c.args.children.now c.args.cuts.now) c.args.memo.now c.args.a c.args.b c.requires.0 c.requires.1 c.requires.2 c.loop-more.invariant c.loop-more-test.true c.child-x.ensures c.child-y.ensures c.cut-k.ensures c.cut-l.ensures c.conjoin-m.ensures c.slot_for.ensures c.advance-s.ensures)
+pub apply_ranges-returns-in_err-id-clause-steps : goal.apply_ranges-returns-in_err-id-clause-steps
+apply_ranges-returns-in_err-id-clause-steps t c = let slot = slot_exists c.loop-more.out.len c.loop-more.last.0 1 in rw (no_room_made _ c.conjoin.new.table.used c.from_residual.ensures.0) (stepped_no_child (conj_walk _ _) c.args.table.now.used (stored c.args.table.now) c.args.memo.now c.args.a c.args.b c.requires.0 c.requires.1 c.requires.2 c.loop-more.invariant.0 c.loop-more-test.true (rw c.read-words.ensures.children at c.child-x.ensures) (rw c.read-words.ensures.children at c.child-y.ensures) (rw c.read-words.ensures.cuts at c.cut-k.ensures) (rw c.read-words.ensures.cuts at c.cut-l.ensures) c.in_err-id.ensures.steps (slot.1, slot.2) refl _)
 
-pub apply_ranges-bounds-out-n : goal.apply_ranges-bounds-out-n
-apply_ranges-bounds-out-n t c = omega (arith, slot_inside (conj_walk _ _) c.args.used (store c.args.nodes.now c.args.children.now c.args.cuts.now) c.args.memo.now c.args.a c.args.b c.requires.0 c.requires.1 c.requires.2 c.loop-more.invariant c.loop-more-test.true c.child-x.ensures c.child-y.ensures c.cut-k.ensures c.cut-l.ensures c.conjoin-m.ensures c.slot_for.ensures c.advance-s.ensures, c.loop-more.invariant.size)
+pub apply_ranges-returns-in_err-s-clause-steps : goal.apply_ranges-returns-in_err-s-clause-steps
+apply_ranges-returns-in_err-s-clause-steps t c = rw (no_room_made _ c.conjoin.new.table.used c.from_residual-in_err-s.ensures.0) (stepped_merge_fails (conj_walk _ _) c.args.table.now.used (stored c.args.table.now) c.args.memo.now c.args.a c.args.b c.requires.0 c.requires.1 c.requires.2 (loop_step (conj_walk _ _) c.args.table.now.used (stored c.args.table.now) c.args.memo.now c.args.a c.args.b c.requires.0 c.requires.1 c.requires.2 c.loop-more.invariant.0 c.loop-more-test.true (rw c.read-words.ensures.children at c.child-x.ensures) (rw c.read-words.ensures.children at c.child-y.ensures) (rw c.read-words.ensures.cuts at c.cut-k.ensures) (rw c.read-words.ensures.cuts at c.cut-l.ensures) c.in_ok-id.ensures.steps c.slot_for.ensures c.in_err-s.ensures) refl refl _)
 
-pub apply_ranges-overflow_add-len : goal.apply_ranges-overflow_add-len
-apply_ranges-overflow_add-len t c = omega (arith, slot_inside (conj_walk _ _) c.args.used (store c.args.nodes.now c.args.children.now c.args.cuts.now) c.args.memo.now c.args.a c.args.b c.requires.0 c.requires.1 c.requires.2 c.loop-more.invariant c.loop-more-test.true c.child-x.ensures c.child-y.ensures c.cut-k.ensures c.cut-l.ensures c.conjoin-m.ensures c.slot_for.ensures c.advance-s.ensures)
+pub apply_ranges-offset_bounds-out-s : goal.apply_ranges-offset_bounds-out-s
+apply_ranges-offset_bounds-out-s t c = omega (arith, slot_inside (conj_walk _ _) c.args.table.now.used (stored c.args.table.now) c.args.memo.now c.args.a c.args.b c.requires.0 c.requires.1 c.requires.2 c.loop-more.invariant.0 c.loop-more-test.true (rw c.read-words.ensures.children at c.child-x.ensures) (rw c.read-words.ensures.children at c.child-y.ensures) (rw c.read-words.ensures.cuts at c.cut-k.ensures) (rw c.read-words.ensures.cuts at c.cut-l.ensures) c.in_ok-id.ensures.steps c.slot_for.ensures c.in_ok-s.ensures)
+
+pub apply_ranges-bounds-out-s : goal.apply_ranges-bounds-out-s
+apply_ranges-bounds-out-s t c = slot_inside (conj_walk _ _) c.args.table.now.used (stored c.args.table.now) c.args.memo.now c.args.a c.args.b c.requires.0 c.requires.1 c.requires.2 c.loop-more.invariant.0 c.loop-more-test.true (rw c.read-words.ensures.children at c.child-x.ensures) (rw c.read-words.ensures.children at c.child-y.ensures) (rw c.read-words.ensures.cuts at c.cut-k.ensures) (rw c.read-words.ensures.cuts at c.cut-l.ensures) c.in_ok-id.ensures.steps c.slot_for.ensures c.in_ok-s.ensures
+
+pub apply_ranges-overflow_add-out : goal.apply_ranges-overflow_add-out
+apply_ranges-overflow_add-out t c = omega (arith, slot_inside (conj_walk _ _) c.args.table.now.used (stored c.args.table.now) c.args.memo.now c.args.a c.args.b c.requires.0 c.requires.1 c.requires.2 c.loop-more.invariant.0 c.loop-more-test.true (rw c.read-words.ensures.children at c.child-x.ensures) (rw c.read-words.ensures.children at c.child-y.ensures) (rw c.read-words.ensures.cuts at c.cut-k.ensures) (rw c.read-words.ensures.cuts at c.cut-l.ensures) c.in_ok-id.ensures.steps c.slot_for.ensures c.in_ok-s.ensures)
 
 pub apply_ranges-overflow_add-i : goal.apply_ranges-overflow_add-i
-apply_ranges-overflow_add-i t c = omega (arith, sides_small (conj_walk _ _) c.args.used (store c.args.nodes.now c.args.children.now c.args.cuts.now) c.args.memo.now c.args.a c.args.b c.requires.0 c.requires.1 c.requires.2 c.loop-more.invariant c.loop-more-test.true c.child-x.ensures c.child-y.ensures c.cut-k.ensures c.cut-l.ensures c.conjoin-m.ensures c.slot_for.ensures c.advance-s.ensures)
+apply_ranges-overflow_add-i t c = omega (arith, sides_small (conj_walk _ _) c.args.table.now.used (stored c.args.table.now) c.args.memo.now c.args.a c.args.b c.requires.0 c.requires.1 c.requires.2 c.loop-more.invariant.0 c.loop-more-test.true (rw c.read-words.ensures.children at c.child-x.ensures) (rw c.read-words.ensures.children at c.child-y.ensures) (rw c.read-words.ensures.cuts at c.cut-k.ensures) (rw c.read-words.ensures.cuts at c.cut-l.ensures) c.in_ok-id.ensures.steps c.slot_for.ensures c.in_ok-s.ensures)
 
 pub apply_ranges-overflow_add-j : goal.apply_ranges-overflow_add-j
-apply_ranges-overflow_add-j t c = omega (arith, sides_small (conj_walk _ _) c.args.used (store c.args.nodes.now c.args.children.now c.args.cuts.now) c.args.memo.now c.args.a c.args.b c.requires.0 c.requires.1 c.requires.2 c.loop-more.invariant c.loop-more-test.true c.child-x.ensures c.child-y.ensures c.cut-k.ensures c.cut-l.ensures c.conjoin-m.ensures c.slot_for.ensures c.advance-s.ensures)
+apply_ranges-overflow_add-j t c = omega (arith, sides_small (conj_walk _ _) c.args.table.now.used (stored c.args.table.now) c.args.memo.now c.args.a c.args.b c.requires.0 c.requires.1 c.requires.2 c.loop-more.invariant.0 c.loop-more-test.true (rw c.read-words.ensures.children at c.child-x.ensures) (rw c.read-words.ensures.children at c.child-y.ensures) (rw c.read-words.ensures.cuts at c.cut-k.ensures) (rw c.read-words.ensures.cuts at c.cut-l.ensures) c.in_ok-id.ensures.steps c.slot_for.ensures c.in_ok-s.ensures)
 
 pub apply_ranges-loop-more-smaller : goal.apply_ranges-loop-more-smaller
-apply_ranges-loop-more-smaller t c = loop_falls (conj_walk _ _) c.args.used (store c.args.nodes.now c.args.children.now c.args.cuts.now) c.args.memo.now c.args.a c.args.b c.requires.0 c.requires.1 c.requires.2 c.loop-more.invariant c.loop-more-test.true c.child-x.ensures c.child-y.ensures c.cut-k.ensures c.cut-l.ensures c.conjoin-m.ensures c.slot_for.ensures c.advance-s.ensures
+apply_ranges-loop-more-smaller t c = loop_falls (conj_walk _ _) c.args.table.now.used (stored c.args.table.now) c.args.memo.now c.args.a c.args.b c.requires.0 c.requires.1 c.requires.2 c.loop-more.invariant.0 c.loop-more-test.true (rw c.read-words.ensures.children at c.child-x.ensures) (rw c.read-words.ensures.children at c.child-y.ensures) (rw c.read-words.ensures.cuts at c.cut-k.ensures) (rw c.read-words.ensures.cuts at c.cut-l.ensures) c.in_ok-id.ensures.steps c.slot_for.ensures c.in_ok-s.ensures
 
 pub apply_ranges-loop-more-preserved : goal.apply_ranges-loop-more-preserved
-apply_ranges-loop-more-preserved t c = loop_step (conj_walk _ _) c.args.used (store c.args.nodes.now c.args.children.now c.args.cuts.now) c.args.memo.now c.args.a c.args.b c.requires.0 c.requires.1 c.requires.2 c.loop-more.invariant c.loop-more-test.true c.child-x.ensures c.child-y.ensures c.cut-k.ensures c.cut-l.ensures c.conjoin-m.ensures c.slot_for.ensures c.advance-s.ensures
+apply_ranges-loop-more-preserved t c = (rw c.new.ensures (loop_any_len (conj_walk _ _) c.args.table.now.used (stored c.args.table.now) c.args.memo.now c.args.a c.args.b (c.in_ok-s.s.slot + 1) (loop_step (conj_walk _ _) c.args.table.now.used (stored c.args.table.now) c.args.memo.now c.args.a c.args.b c.requires.0 c.requires.1 c.requires.2 c.loop-more.invariant.0 c.loop-more-test.true (rw c.read-words.ensures.children at c.child-x.ensures) (rw c.read-words.ensures.children at c.child-y.ensures) (rw c.read-words.ensures.cuts at c.cut-k.ensures) (rw c.read-words.ensures.cuts at c.cut-l.ensures) c.in_ok-id.ensures.steps c.slot_for.ensures c.in_ok-s.ensures)), same_trans c.loop-more.invariant.1 c.conjoin.ensures.same)
 
 pub apply_ranges-settle-requires : goal.apply_ranges-settle-requires
-apply_ranges-settle-requires t c = let loop· = c.loop-more in
-    (loop·.invariant.ready.lent, closed_buildable (conj_walk _ _) c.args.used (store c.args.nodes.now c.args.children.now c.args.cuts.now) c.args.memo.now c.args.a c.args.b c.requires.0 c.requires.1 c.requires.2 loop·.invariant c.loop-more-test.false (c.if-not-ok.false))
+apply_ranges-settle-requires t c = (c.loop-more.invariant.0.ready.lent, closed_buildable (conj_walk _ _) c.args.table.now.used (stored c.args.table.now) c.args.memo.now c.args.a c.args.b c.requires.0 c.requires.1 c.requires.2 c.loop-more.invariant.0 c.loop-more-test.false refl)
 
-pub apply_ranges-returns : goal.apply_ranges-returns
-apply_ranges-returns t c = stepped_when_closed (conj_walk _ _) c.args.used (store c.args.nodes.now c.args.children.now c.args.cuts.now) c.args.memo.now c.args.a c.args.b c.requires.0 c.requires.1 c.requires.2 c.loop-more.invariant c.loop-more-test.false (c.if-not-ok.false) c.settle.ensures.outcome
+pub apply_ranges-returns-clause-steps : goal.apply_ranges-returns-clause-steps
+apply_ranges-returns-clause-steps t c = stepped_when_closed (conj_walk _ _) c.args.table.now.used (stored c.args.table.now) c.args.memo.now c.args.a c.args.b c.requires.0 c.requires.1 c.requires.2 c.loop-more.invariant.0 c.loop-more-test.false refl c.settle.ensures.makes.outcome
 
-pub conjoin-returns-then-s : goal.conjoin-returns-then-s
-conjoin-returns-then-s t c = let pre· = c.requires in
-    stepped_adds_nothing pre·.0 _ (opened_is pre·.0 pre·.1 pre·.2 (c.opened-s.ensures.0 c.if-s.true))
+pub conjoin-returns-in-Some-clause-steps : goal.conjoin-returns-in-Some-clause-steps
+conjoin-returns-in-Some-clause-steps t c = stepped_adds_nothing c.requires.0 _ (opened_is c.requires.0 c.requires.1 c.requires.2 c.in-Some.ensures)
 
-pub conjoin-recall-s-requires : goal.conjoin-recall-s-requires
-conjoin-recall-s-requires t c = let pre· = c.requires in
-    let k = in_either_order (KnownTo _) c.in_order-p.ensures pre·.1.known pre·.2.known in
-    ready_recalls pre·.0 k.0 k.1
+pub conjoin-recall-requires : goal.conjoin-recall-requires
+conjoin-recall-requires t c = let k = in_either_order (KnownTo _) c.in_order.ensures c.requires.1.known c.requires.2.known in ready_recalls c.requires.0 k.0 k.1
 
-pub conjoin-returns-then-s-2 : goal.conjoin-returns-then-s-2
-conjoin-returns-then-s-2 t c = let pre· = c.requires in
-    let none = c.opened-s.ensures.1 c.if-s.false in
-    let two = in_either_order (λ (i : ℕ). 2 ≤ i) c.in_order-p.ensures (left_node pre·.0 pre·.1 pre·.2 none) (right_node pre·.0 pre·.1 pre·.2 none) in
-    stepped_adds_nothing pre·.0 _ (recalled_is pre·.0 pre·.1 pre·.2 (entry_as_given c.in_order-p.ensures (hit_was_noted pre·.0.recalled (omega (arith, two.0)) (c.recall-s.ensures c.if-s-2.true))))
+pub conjoin-returns-in-Some-recall-clause-steps : goal.conjoin-returns-in-Some-recall-clause-steps
+conjoin-returns-in-Some-recall-clause-steps t c = let two = in_either_order (λ (i : ℕ). 2 ≤ i) c.in_order.ensures (left_node c.requires.0 c.requires.1 c.requires.2 c.in_default.ensures) (right_node c.requires.0 c.requires.1 c.requires.2 c.in_default.ensures) in
+    stepped_adds_nothing c.requires.0 _ (recalled_is c.requires.0 c.requires.1 c.requires.2 (entry_as_given c.in_order.ensures (hit_was_noted c.requires.0.recalled (omega (arith, two.0)) c.in-Some-recall.ensures)))
 
 pub conjoin-first_variable-v-requires : goal.conjoin-first_variable-v-requires
-conjoin-first_variable-v-requires t c = let pre· = c.requires in
-    let opened· = c.opened-s in
-    let if1· = c.if-s in
-    (left_node pre·.0 pre·.1 pre·.2 (opened·.ensures.1 if1·.false), record_inside (ready_readable pre·.0) _ pre·.1.known, right_node pre·.0 pre·.1 pre·.2 (opened·.ensures.1 if1·.false), record_inside (ready_readable pre·.0) _ pre·.2.known)
+conjoin-first_variable-v-requires t c = rw c.read-words.ensures.nodes (left_node c.requires.0 c.requires.1 c.requires.2 c.in_default.ensures, record_inside (ready_readable c.requires.0) _ c.requires.1.known, right_node c.requires.0 c.requires.1 c.requires.2 c.in_default.ensures, record_inside (ready_readable c.requires.0) _ c.requires.2.known)
 
 pub conjoin-view_of-a-requires : goal.conjoin-view_of-a-requires
-conjoin-view_of-a-requires t c = let pre· = c.requires in
-    (left_node pre·.0 pre·.1 pre·.2 (c.opened-s.ensures.1 c.if-s.false), record_inside (ready_readable pre·.0) _ pre·.1.known)
+conjoin-view_of-a-requires t c = rw c.read-words.ensures.nodes (left_node c.requires.0 c.requires.1 c.requires.2 c.in_default.ensures, record_inside (ready_readable c.requires.0) _ c.requires.1.known)
 
 pub conjoin-view_of-b-requires : goal.conjoin-view_of-b-requires
-conjoin-view_of-b-requires t c = let pre· = c.requires in
-    (right_node pre·.0 pre·.1 pre·.2 (c.opened-s.ensures.1 c.if-s.false), record_inside (ready_readable pre·.0) _ pre·.2.known)
+conjoin-view_of-b-requires t c = rw c.read-words.ensures.nodes (right_node c.requires.0 c.requires.1 c.requires.2 c.in_default.ensures, record_inside (ready_readable c.requires.0) _ c.requires.2.known)
 
 pub conjoin-overflow_sub-ahead : goal.conjoin-overflow_sub-ahead
-conjoin-overflow_sub-ahead t c = let pre· = c.requires in
-    call_left (ready_readable pre·.0) _ pre·.1
+conjoin-overflow_sub-ahead t c = call_left (ready_readable c.requires.0) _ c.requires.1
 
-pub conjoin-apply-m-requires : goal.conjoin-apply-m-requires
-conjoin-apply-m-requires t c = (omega (arith, c.decreases, call_left (ready_readable c.requires.0) _ c.requires.1), (c.requires.0, sides c.requires.0 c.requires.1 c.requires.2 (c.opened-s.ensures.1 c.if-s.false) c.first_variable-v.ensures c.view_of-a.ensures c.view_of-b.ensures))
+pub conjoin-apply-requires : goal.conjoin-apply-requires
+conjoin-apply-requires t c = (omega (arith, c.decreases, call_left (ready_readable c.requires.0) _ c.requires.1), (c.requires.0, sides c.requires.0 c.requires.1 c.requires.2 c.in_default.ensures (rw c.read-words.ensures.nodes at c.first_variable-v.ensures) (rw c.read-words.ensures.nodes at c.view_of-a.ensures) (rw c.read-words.ensures.nodes at c.view_of-b.ensures)))
+
+pub conjoin-returns-in_err-id-clause-steps : goal.conjoin-returns-in_err-id-clause-steps
+conjoin-returns-in_err-id-clause-steps t c = rw (no_room_made _ c.apply.new.table.used c.from_residual.ensures.0) (stepped_equal_want c.in_err-id.ensures.steps (both_is c.requires.0 c.requires.1 c.requires.2 c.in_default.ensures (rw c.read-words.ensures.nodes at c.first_variable-v.ensures) (rw c.read-words.ensures.nodes at c.view_of-a.ensures) (rw c.read-words.ensures.nodes at c.view_of-b.ensures)))
 
 pub conjoin-remember-requires : goal.conjoin-remember-requires
-conjoin-remember-requires t c = let pre· = c.requires in
-    note_asked pre·.0 pre·.1 pre·.2 (c.opened-s.ensures.1 c.if-s.false) c.first_variable-v.ensures c.view_of-a.ensures c.view_of-b.ensures c.apply-m.ensures c.if-m.true c.in_order-p.ensures
+conjoin-remember-requires t c = note_asked c.requires.0 c.requires.1 c.requires.2 c.in_default.ensures (rw c.read-words.ensures.nodes at c.first_variable-v.ensures) (rw c.read-words.ensures.nodes at c.view_of-a.ensures) (rw c.read-words.ensures.nodes at c.view_of-b.ensures) c.in_ok-id.ensures.steps refl c.in_order.ensures
 
-pub conjoin-returns-then-m : goal.conjoin-returns-then-m
-conjoin-returns-then-m t c = let pre· = c.requires in
-    let opened· = c.opened-s in
-    let if1· = c.if-s in
-    let first-variable· = c.first_variable-v in
-    let view-of· = c.view_of-a in
-    let view-of2· = c.view_of-b in
-    let apply· = c.apply-m in
-    let if3· = c.if-m in
-    stepped_with_note (stepped_equal_want apply·.ensures (both_is pre·.0 pre·.1 pre·.2 (opened·.ensures.1 if1·.false) first-variable·.ensures view-of·.ensures view-of2·.ensures)) (entry_ordered c.in_order-p.ensures (entry_of pre·.0 pre·.1 pre·.2 (both_is pre·.0 pre·.1 pre·.2 (opened·.ensures.1 if1·.false) first-variable·.ensures view-of·.ensures view-of2·.ensures) (apply·.ensures.outcome.table if3·.true) (apply·.ensures.outcome.id if3·.true))) c.remember.ensures
-
-pub conjoin-returns-else-m : goal.conjoin-returns-else-m
-conjoin-returns-else-m t c = let pre· = c.requires in
-    stepped_equal_want c.apply-m.ensures (both_is pre·.0 pre·.1 pre·.2 (c.opened-s.ensures.1 c.if-s.false) c.first_variable-v.ensures c.view_of-a.ensures c.view_of-b.ensures)
+pub conjoin-returns-clause-steps : goal.conjoin-returns-clause-steps
+conjoin-returns-clause-steps t c = let step = c.in_ok-id.ensures.steps in
+    let both = both_is c.requires.0 c.requires.1 c.requires.2 c.in_default.ensures (rw c.read-words.ensures.nodes at c.first_variable-v.ensures) (rw c.read-words.ensures.nodes at c.view_of-a.ensures) (rw c.read-words.ensures.nodes at c.view_of-b.ensures) in
+    stepped_with_note (stepped_equal_want step both) (entry_ordered c.in_order.ensures (entry_of c.requires.0 c.requires.1 c.requires.2 both (step.outcome.table refl) (step.outcome.id refl))) c.remember.ensures

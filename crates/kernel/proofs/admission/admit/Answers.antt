@@ -1,14 +1,12 @@
-use native.Mathlib.Omega.{arith}
-use Rattle.kernel.specs.Admitting.{not_lent}
-use Rattle.kernel.proofs.Admitted.{admits_not, admits_it}
+use mathlib.Core.Path.{refl}
+use Rattle.kernel.proofs.Admitted.{admits_not, admits_it, admit_refuses}
 use Rattle.kernel.proofs.admission.admit.Goals as goal
 
--- `admission::admit` meets its contract. Assumes nothing.
-pub returns-then-c-ne-DONE : goal.returns-then-c-ne-DONE
-returns-then-c-ne-DONE c = not_lent _ _ c.check-c.ensures c.if-c-ne-DONE.true
+pub returns-in_err-used : goal.returns-in_err-used
+returns-in_err-used c = admit_refuses _ _ c.in_err-used.ensures _ c.from_residual.ensures.1
 
-pub returns-then-not-kind : goal.returns-then-not-kind
-returns-then-not-kind c = admits_not c.check-c.ensures (omega arith) (c.if-not-kind.true)
+pub returns-then-kind : goal.returns-then-kind
+returns-then-kind c = admits_it c.in_ok-used.ensures refl c.if-kind.true
 
-pub returns : goal.returns
-returns c = admits_it c.check-c.ensures (omega arith) (c.if-not-kind.false)
+pub returns-else-kind : goal.returns-else-kind
+returns-else-kind c = (c.in_ok-used.used, admits_not c.in_ok-used.ensures refl c.if-kind.false)

@@ -1,14 +1,16 @@
-use native.Mathlib.Omega.{arith}
-use Rattle.kernel.proofs.Admitted.{admitted_lent, condition_refused, condition_answered, same_bool}
+use mathlib.Core.Path.{refl, sym}
+use Rattle.kernel.proofs.Results.{refusal_not_done, same_number, no_id}
+use Rattle.kernel.proofs.Admitted.{admitted_lent, condition_refused, condition_answered}
 use Rattle.kernel.proofs.conditions_calls.from_bool.Goals as goal
 
--- `conditions_calls::from_bool` has the one outcome that its contract allows. Assumes nothing.
-pub returns-then-a-ne-DONE : goal.returns-then-a-ne-DONE
-returns-then-a-ne-DONE c = (tt, condition_refused _ _ _ _ c.is_boolean.ensures c.admit-a.ensures c.if-a-ne-DONE.true c.refused.ensures)
+pub returns-in_err-used-clause-comes : goal.returns-in_err-used-clause-comes
+returns-in_err-used-clause-comes c = (tt, condition_refused _ _ _ _ c.is_boolean.ensures (rw (c.read.ensures.nodes, c.read.ensures.children, c.read.ensures.cuts, c.read.ensures.index) at c.in_err-used.ensures).1 (refusal_not_done _) (same_number _ _ c.from_residual.ensures.1, no_id _ _ c.from_residual.ensures.1))
 
 pub from_bool-requires : goal.from_bool-requires
-from_bool-requires c = let x = admitted_lent c.is_boolean.ensures c.admit-a.ensures c.if-a-ne-DONE.false in
-    (x.0, omega (arith, c.wide.ensures.0, x.1.0), omega (arith, c.wide.ensures.0, x.1.1))
+from_bool-requires c = let x = admitted_lent c.is_boolean.ensures (rw (c.read.ensures.nodes, c.read.ensures.children, c.read.ensures.cuts, c.read.ensures.index) at c.in_ok-used.ensures) refl in (x.0, x.1.0, x.1.1)
 
-pub returns : goal.returns
-returns c = (tt, condition_answered _ _ _ _ (admitted_lent c.is_boolean.ensures c.admit-a.ensures c.if-a-ne-DONE.false) c.from_bool.ensures (same_bool _ c.wide.ensures.0) c.answer_of.ensures)
+pub returns-in_err-from_bool-clause-comes : goal.returns-in_err-from_bool-clause-comes
+returns-in_err-from_bool-clause-comes c = rw (c.table-4-1.given.1 (sym c.from_bool.ensures.same.nodes), c.table-3-1.given.1 (sym c.from_bool.ensures.same.children), c.table-2-1.given.1 (sym c.from_bool.ensures.same.cuts), c.table-1.given.1 (sym c.from_bool.ensures.same.index)) (tt, condition_answered _ _ _ _ (admitted_lent c.is_boolean.ensures (rw (c.read.ensures.nodes, c.read.ensures.children, c.read.ensures.cuts, c.read.ensures.index) at c.in_ok-used.ensures) refl) c.in_err-from_bool.ensures.makes refl (same_number _ _ c.from_residual-in_err-from_bool.ensures.1, no_id _ _ c.from_residual-in_err-from_bool.ensures.1))
+
+pub returns-clause-comes : goal.returns-clause-comes
+returns-clause-comes c = rw (c.table-4-1.given.1 (sym c.from_bool.ensures.same.nodes), c.table-3-1.given.1 (sym c.from_bool.ensures.same.children), c.table-2-1.given.1 (sym c.from_bool.ensures.same.cuts), c.table-1.given.1 (sym c.from_bool.ensures.same.index)) (tt, condition_answered _ _ _ _ (admitted_lent c.is_boolean.ensures (rw (c.read.ensures.nodes, c.read.ensures.children, c.read.ensures.cuts, c.read.ensures.index) at c.in_ok-used.ensures) refl) c.in_ok-from_bool.ensures.makes refl (refl, refl))

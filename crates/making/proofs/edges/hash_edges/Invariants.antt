@@ -1,4 +1,4 @@
-use Prim.Native.Nat.{◌<◌, ◌≤◌, ◌-◌}
+use Prim.Native.Nat.{◌<◌}
 use mathlib.Core.Path.{◌≡◌}
 use Rattle.ids.specs.Id.{sign}
 use Rattle.making.specs.Building.{hash_in}
@@ -6,7 +6,4 @@ use Rattle.making.proofs.edges.hash_edges.Given as goal
 
 -- `edges::hash_edges` meets its contract. Assumes nothing.
 abbrev pub invariant-loop-j : goal.invariant-loop-j
-invariant-loop-j l = (l.j ≤ l.n) × (l.h < 4294967296) × (l.h ≡ hash_in l.v (sign l.lead.0) l.es l.j)
-
-abbrev pub decreases-loop-j : goal.decreases-loop-j
-decreases-loop-j l = l.n - l.j
+invariant-loop-j g l = (l.h < 4294967296) × (l.h ≡ hash_in l.v (sign l.lead.0) (g.E.EdgeList.edges l.es) l.j)

@@ -1,6 +1,3 @@
-use mathlib.Core.Path.{◌≡◌}
-use Prim.Native.Nat.{◌-◌, ◌≤◌}
-use lib.ListN.{length}
 use Rattle.ids.specs.Id.{sign, under}
 use Rattle.making.specs.Building.{child_in, cut_in}
 use Rattle.making.specs.Storing.{EdgesWritten, stored_cut}
@@ -8,7 +5,4 @@ use Rattle.making.proofs.nodes.put_edges.Given as goal
 
 -- `nodes::put_edges` meets its contract: the edges passed are stored. Assumes nothing.
 abbrev pub invariant-loop-j : goal.invariant-loop-j
-invariant-loop-j l = (l.j ≤ l.count) × (length l.children ≡ length l.initial.children) × (length l.cuts ≡ length l.initial.cuts) × EdgesWritten l.initial.children l.initial.cuts l.e l.j (λ i. under (sign l.lead.0) (child_in l.es i)) (λ i. stored_cut l.v i l.es.len (cut_in l.es i)) l.children l.cuts
-
-abbrev pub decreases-loop-j : goal.decreases-loop-j
-decreases-loop-j l = l.count - l.j
+invariant-loop-j g l = EdgesWritten l.initial.children l.initial.cuts l.e l.j (λ i. under (sign l.lead.0) (child_in (g.E.EdgeList.edges l.es) i)) (λ i. stored_cut l.v i (g.E.EdgeList.edges l.es).len (cut_in (g.E.EdgeList.edges l.es) i)) l.children l.cuts

@@ -1,4 +1,3 @@
-use Prim.Native.Nat.{◌≤◌, ◌-◌}
 use mathlib.Core.Path.{◌≡◌}
 use Rattle.table.specs.Held.{edges_from}
 use Rattle.diagram.specs.Pieces.{select}
@@ -7,7 +6,4 @@ use Rattle.table.proofs.read.choose.Given as goal
 
 -- `read::choose` meets its contract. Assumes nothing.
 abbrev pub invariant-loop-j : goal.invariant-loop-j
-invariant-loop-j l = (l.end ≡ l.count - 1) × (l.j ≤ l.end) × (select (edges_from l.children l.cuts l.e l.end) l.p ≡ rest l.children l.cuts l.p l.e l.end l.j)
-
-abbrev pub decreases-loop-j : goal.decreases-loop-j
-decreases-loop-j l = l.end - l.j
+invariant-loop-j l = select (edges_from l.children l.cuts l.e l.end) l.p ≡ rest l.children l.cuts l.p l.e l.end l.j

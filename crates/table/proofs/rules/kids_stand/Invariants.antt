@@ -1,4 +1,4 @@
-use Prim.Native.Nat.{ℕ, ◌<◌, ◌≤◌, ◌+◌, ◌-◌}
+use Prim.Native.Nat.{ℕ, ◌<◌, ◌+◌, ◌-◌}
 use mathlib.Core.Path.{◌≡◌}
 use Rattle.table.specs.Layout.{kid_at}
 use Rattle.table.specs.Lent.{Stands}
@@ -6,7 +6,4 @@ use Rattle.table.proofs.rules.kids_stand.Given as goal
 
 -- `rules::kids_stand` meets its contract. Assumes nothing.
 abbrev pub invariant-loop-j : goal.invariant-loop-j
-invariant-loop-j l = (1 ≤ l.j) × (l.j ≤ l.count) × ((i : ℕ) → i + 1 ≡ l.j → l.last ≡ kid_at l.children (l.e + i)) × ((k : ℕ) → k < l.j → Stands l.nodes l.n l.v (kid_at l.children (l.e + k))) × ((k : ℕ) → k + 1 < l.j → kid_at l.children (l.e + (k + 1)) ≡ kid_at l.children (l.e + k) → ⊥)
-
-abbrev pub decreases-loop-j : goal.decreases-loop-j
-decreases-loop-j l = l.count - l.j
+invariant-loop-j l = (l.last ≡ kid_at l.children (l.e + (l.j - 1))) × ((k : ℕ) → k < l.j → Stands l.nodes l.n l.v (kid_at l.children (l.e + k))) × ((k : ℕ) → k + 1 < l.j → kid_at l.children (l.e + (k + 1)) ≡ kid_at l.children (l.e + k) → ⊥)

@@ -1,4 +1,4 @@
-use Prim.Native.Nat.{ℕ, ◌<◌, ◌≤◌, ◌+◌, ◌-◌}
+use Prim.Native.Nat.{ℕ, ◌<◌, ◌+◌}
 use mathlib.Core.Path.{◌≡◌}
 use Rattle.table.specs.Layout.{kid_at, cut_at, cut_position}
 use Rattle.table.specs.Indexed.{hash_to}
@@ -8,7 +8,4 @@ use Rattle.table.proofs.rules.pass.Given as goal
 
 -- `rules::pass` meets its contract. Assumes nothing.
 abbrev pub invariant-loop-j : goal.invariant-loop-j
-invariant-loop-j l = (l.end ≡ l.count - 1) × (l.j ≤ l.end) × (l.last ≡ kid_at l.children (l.e + l.j)) × (l.last < 4294967296) × (l.low ≡ below l.cuts l.e l.j) × (l.h ≡ hash_to l.children l.cuts l.v l.e l.j) × (l.h < 4294967296) × ((k : ℕ) → k < l.j → below l.cuts l.e k < cut_position (cut_at l.cuts (l.e + k))) × ((k : ℕ) → k < l.j + 1 → Stands l.nodes l.n l.v (kid_at l.children (l.e + k))) × ((k : ℕ) → k < l.j → kid_at l.children (l.e + (k + 1)) ≡ kid_at l.children (l.e + k) → ⊥)
-
-abbrev pub decreases-loop-j : goal.decreases-loop-j
-decreases-loop-j l = l.end - l.j
+invariant-loop-j l = (l.last ≡ kid_at l.table.children.now (l.e + l.j)) × (l.last < 4294967296) × (l.low ≡ below l.table.cuts.now l.e l.j) × (l.h ≡ hash_to l.table.children.now l.table.cuts.now l.v l.e l.j) × (l.h < 4294967296) × ((k : ℕ) → k < l.j → below l.table.cuts.now l.e k < cut_position (cut_at l.table.cuts.now (l.e + k))) × ((k : ℕ) → k < l.j + 1 → Stands l.table.nodes.now l.n l.v (kid_at l.table.children.now (l.e + k))) × ((k : ℕ) → k < l.j → kid_at l.table.children.now (l.e + (k + 1)) ≡ kid_at l.table.children.now (l.e + k) → ⊥)

@@ -1,4 +1,4 @@
-use Prim.Native.Nat.{◌≤◌, ◌-◌}
+use Prim.Native.Nat.{◌≤◌}
 use mathlib.Core.Path.{◌≡◌}
 use Rattle.chains.specs.Local.{tally}
 use Rattle.chains.specs.Row.{words}
@@ -6,7 +6,4 @@ use Rattle.table.proofs.sound.full_words.Given as goal
 
 -- `sound::full_words` meets its contract. Assumes nothing.
 abbrev pub invariant-loop-i : goal.invariant-loop-i
-invariant-loop-i l = (l.i ≤ l.n) × (l.full ≤ l.i) × (l.full ≡ tally (words l.index) l.i)
-
-abbrev pub decreases-loop-i : goal.decreases-loop-i
-decreases-loop-i l = l.n - l.i
+invariant-loop-i l = (l.full ≤ l.i) × (l.full ≡ tally (words l.index) l.i)

@@ -1,11 +1,8 @@
-use Prim.Native.Nat.{ℕ, ◌<◌, ◌≤◌, ◌-◌}
+use Prim.Native.Nat.{ℕ, ◌<◌, ◌≤◌}
 use mathlib.Core.Path.{◌≡◌}
 use lib.ListN.{get_or}
 use Rattle.table.proofs.words.zeros_between.Given as goal
 
 -- `words::zeros_between` meets its contract. Assumes nothing.
 abbrev pub invariant-loop-i : goal.invariant-loop-i
-invariant-loop-i l = (l.from ≤ l.i) × (l.i ≤ l.to) × (l.all ≡ 0 → (k : ℕ) → l.from ≤ k → k < l.i → get_or l.words k 0 ≡ 0) × (((k : ℕ) → l.from ≤ k → k < l.i → get_or l.words k 0 ≡ 0) → l.all ≡ 0)
-
-abbrev pub decreases-loop-i : goal.decreases-loop-i
-decreases-loop-i l = l.to - l.i
+invariant-loop-i l = (l.all ≡ 0 → (k : ℕ) → l.from ≤ k → k < l.i → get_or l.words k 0 ≡ 0) × (((k : ℕ) → l.from ≤ k → k < l.i → get_or l.words k 0 ≡ 0) → l.all ≡ 0)
