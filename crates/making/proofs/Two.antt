@@ -1,35 +1,23 @@
 -- A node of two edges. Assumes nothing.
 use mathlib.Core.Path.{◌≡◌, sym, ◌∙◌, ap, ap₂, subst}
-use mathlib.Core.Bool.{cond, ◌&&◌}
-use mathlib.Core.List.{List, [], ◌∷◌}
-use mathlib.Core.Logic.{⊎_elim}
-use Prim.Native.Nat.{ℕ, suc, ◌+◌, ◌-◌, ◌≤◌, ◌<◌}
+use mathlib.Core.List.{List}
+use Prim.Native.Nat.{ℕ, suc, ◌-◌, ◌≤◌, ◌<◌}
 use native.Mathlib.Omega.{arith}
 use lib.ListN.{length, get_or, set, replicate, length-set, length-replicate}
 use lib.Seq.{get_or-set_same, get_or-set_other}
-use lib.Dec.{ltb}
 use borrow.Author.Tests.{le-ltb}
-use Rattle.ids.specs.Id.{sign, under}
 use Rattle.ids.specs.declared.NodeId.{NodeId}
 use Rattle.diagram.specs.Pieces.{Pieces, last, cut}
 use Rattle.diagram.specs.Shape.{Each, Reduced, run}
-use Rattle.diagram.specs.Table.{variables, first_boolean, is_range, top_of, Table, most_edges}
+use Rattle.diagram.specs.Table.{variables, first_boolean, top_of, Table, most_edges}
 use Rattle.diagram.specs.Sound.{Child}
 use Rattle.algebra.specs.Making.{settle}
 use Rattle.algebra.specs.Overlay.{merge}
 use Rattle.algebra.proofs.Overlays.{join_same, join_other, reduced_merge, each_merge}
-use Rattle.table.specs.Layout.{room, Store}
-use Rattle.table.specs.Lent.{SoundLent}
-use Rattle.table.proofs.Laws.{lt_or_le}
 use Rattle.making.specs.declared.edges.Edge.{Edge}
 use Rattle.making.specs.declared.edges.Edges as built
-use Rattle.making.specs.Building.{Building, none, child_in, cut_in, pieces_of, zero_cut, hash_in, two_list, two_of}
-use Rattle.making.specs.declared.chain.Front.{Front}
-use Rattle.making.specs.declared.chain.Spot.{Spot}
-use Rattle.making.specs.Seeking.{rest_at, rest_in, front_of, Sought, Seeks, Finds}
+use Rattle.making.specs.Building.{Building, none, child_in, cut_in, pieces_of, two_list, two_of}
 use Rattle.making.specs.Outcome.{Buildable, create_pair}
-use Rattle.making.proofs.Fronts.{front_in, front_in_lem, run_ends}
-use Rattle.making.proofs.Finding.{find_none, find_same}
 
 module _ (a b : Edge) where
   abbrev blank : List Edge
@@ -52,9 +40,6 @@ module _ (a b : Edge) where
   pub slot_other : (j : ℕ) → j ≡ 1 → get_or (two_of a b).list j none ≡ b
   slot_other j e = rw e slot_second
 
-  pub two_lead : child_in (two_of a b) 0 ≡ a.child.0
-  two_lead = ap (λ (x : Edge). x.child.0) slot_first
-
   two_building : Building (two_of a b)
   unfolding two_list
   two_building = record { size = simp length-set sized; some = omega arith; most = omega arith }
@@ -66,25 +51,6 @@ module _ (a b : Edge) where
   -- They make a node where others with these pieces do.
   pub two_buildable : (t : Table) {v : ℕ} {ps : Pieces ℕ} → ps ≡ cut a.child.0 a.cut (last b.child.0) → v < variables → Reduced 0 (top_of v) ps → Each (Child t (suc v)) ps → Buildable t v (two_of a b)
   two_buildable t {v} e known r k = record { building = two_building; known = known; reduced = subst (Reduced 0 (top_of v)) (e ∙ sym two_pieces) r; kids = subst (Each (Child t (suc v))) (e ∙ sym two_pieces) k }
-
-  -- Their front.
-  pub two_front : (v : ℕ) {f : Front} → front_of f ≡ (v ∷ (2 ∷ (under (sign a.child.0) a.child.0 ∷ (cond (is_range v && ltb (0 + 1) 2) a.cut zero_cut ∷ (under (sign a.child.0) b.child.0 ∷ (cond (is_range v && ltb (1 + 1) 2) b.cut zero_cut ∷ [])))))) → front_of f ≡ front_in v (sign a.child.0) (two_of a b)
-  unfolding two_list
-  two_front v e = front_in_lem v (sign a.child.0) (two_of a b) (rw (slot_first, slot_second) e)
-
-  -- A search for the node finds it or its place: no other edges are left to compare.
-  pub two_finds : {st : Store} {index : List ℕ} {u h : ℕ} (v : ℕ) {f : Front} {r : Spot} → SoundLent st index u → 1 ≤ room st.nodes → Reduced 0 (top_of v) (pieces_of (two_of a b)) → h ≡ hash_in v (sign a.child.0) (two_of a b) 2 → front_of f ≡ front_in v (sign a.child.0) (two_of a b)
-      → Seeks st index h f 0 r → Finds st u v (sign a.child.0) (two_of a b) r
-  two_finds {st} {index} {u} {h} v {f} {r} z some red hashed front w = ⊎_elim (λ l. find_same z some v s (two_of a b) (omega arith) red hashed front found l none_left) (λ g. find_none z some v s (two_of a b) (omega arith) red hashed front found (omega arith)) (lt_or_le 0 r.at)
-    where
-      s : ℕ
-      s = sign a.child.0
-
-      found : Sought st index u h f (rest_in v (sign a.child.0) (two_of a b)) r
-      found = w.sought u z (rest_in v (sign a.child.0) (two_of a b)) (λ m e. absurd (omega arith))
-
-      none_left : rest_at st (r.at - 1) 2 ≡ rest_in v (sign a.child.0) (two_of a b)
-      none_left = run_ends _ _ 2 2 (omega arith) ∙ sym (run_ends _ _ 2 2 (omega arith))
 
 -- An array of two edges has their pieces.
 pub array_of_two : (es : built.Edges) → es.len ≡ 2 → pieces_of es ≡ cut (child_in es 0) (cut_in es 0) (last (child_in es 1))

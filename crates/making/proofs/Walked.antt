@@ -31,10 +31,7 @@ pub from_none : (r b p : ℕ) → p ≤ 0 → b ≡ from r b p
 from_none r b zero h = refl
 from_none r b (suc m) h = absurd (omega arith)
 
--- what is left of two answers, and of two numbers
-pub not_same : {r : ℕ} → (r ≡ 1 → ⊥) → r ≤ 1 → r ≡ 0
-not_same d l = ⊎_elim (λ e. absurd (d e)) (λ g. omega arith) (eq-or-lt_of_le l)
-
+-- what is left of two numbers
 pub not_equal : {a b : ℕ} → a ≤ b → (a ≡ b → ⊥) → a < b
 not_equal l d = ⊎_elim (λ e. absurd (d e)) (λ g. g) (eq-or-lt_of_le l)
 

@@ -13,7 +13,7 @@ ghost use Rattle.making.specs.Storing.{IndexPut};
 ghost use Rattle.making.specs.Outcome.{Findable};
 ghost use Rattle.making.specs.Seeking.{Ordered, edge_at, front_at, rest_at, front_of, rest_in, Seekable, Seeks, Finds};
 
-use super::edges::{Edge, Edges, key_of};
+use super::edges::{Edge, EdgeList, key_of};
 use ids::NodeId;
 use std::cmp::Ordering;
 use table::index::scaled;
@@ -91,14 +91,14 @@ fn front_compared(table: &Table, n: usize, f: Front) -> Ordering
 
 // How the edges of node n from its third on stand to those of a node under construction, of which there are as many. Their children are seen
 // under the sign of `lead`.
-fn rest_compared(table: &Table, n: usize, v: usize, lead: NodeId, es: &Edges) -> Ordering
-    requires { (n * 4 + 4 ≤ length table.now.nodes.now) × (length table.now.cuts.now ≡ length table.now.children.now) × (Rules (store_in table.now) n) × (Building es.now) × (2 ≤ es.now.len) × (count_at table.now.nodes.now n ≡ es.now.len) }
-    ensures { Ordered (rest_at (store_in table.now) n es.now.len) (rest_in v (sign lead.0) es.now) (ordering_index result) }
+fn rest_compared<E: EdgeList>(table: &Table, n: usize, v: usize, lead: NodeId, es: &E) -> Ordering
+    requires { (n * 4 + 4 ≤ length table.now.nodes.now) × (length table.now.cuts.now ≡ length table.now.children.now) × (Rules (store_in table.now) n) × (Building (E.edges es.now)) × (2 ≤ (E.edges es.now).len) × (count_at table.now.nodes.now n ≡ (E.edges es.now).len) }
+    ensures { Ordered (rest_at (store_in table.now) n (E.edges es.now).len) (rest_in v (sign lead.0) (E.edges es.now)) (ordering_index result) }
 {
-    let count = es.len;
+    let count = es.count();
     let first = first_of(table.nodes, n);
     for j in 2..count {
-        let e = es.list[j];
+        let e = es.edge(j);
         let c = e.child.negate(lead);
         // By `key_of`, since the last edge of a node under construction may have any cut, where the table has 0.
         let by_edge = edge_compared(table, first + j, c.0 as usize, key_of(v, j, count, e.cut));
@@ -168,13 +168,13 @@ pub fn seek(table: &Table, h: usize, f: Front, from: usize) -> Spot
 // "Find it": where the node of variable v with these edges is, their children seen under the sign of `lead`, or its place. Only nodes of its
 // bucket can be it.
 // Variable, lead, edges and hash go on as parameters, here and in `extend`: a struct of them would be taken apart in each function.
-pub fn find(table: &Table, v: usize, lead: NodeId, es: &Edges, h: usize) -> Spot
-    requires { (Allowed (store_in table.now) table.now.index.now) × (Findable (store_in table.now) table.now.index.now v es.now) × (2 ≤ es.now.len) × (h ≡ hash_in v (sign lead.0) es.now es.now.len) }
-    ensures { (u : ℕ) → SoundLent (store_in table.now) table.now.index.now u → Finds (store_in table.now) u v (sign lead.0) es.now result }
+pub fn find<E: EdgeList>(table: &Table, v: usize, lead: NodeId, es: &E, h: usize) -> Spot
+    requires { (Allowed (store_in table.now) table.now.index.now) × (Findable (store_in table.now) table.now.index.now v (E.edges es.now)) × (2 ≤ (E.edges es.now).len) × (h ≡ hash_in v (sign lead.0) (E.edges es.now) (E.edges es.now).len) }
+    ensures { (u : ℕ) → SoundLent (store_in table.now) table.now.index.now u → Finds (store_in table.now) u v (sign lead.0) (E.edges es.now) result }
 {
-    let f = front_of(v, lead, es.len, es.list[0], es.list[1]);
+    let f = front_of(v, lead, es.count(), es.edge(0), es.edge(1));
     let mut s = seek(table, h, f, 0);
-    // A second turn is for nodes of one hash whose first edges agree as well.
+    // A second turn is for nodes of one hash whose first edges agree as well. Where two edges are all, none is left to compare.
     while 0 < s.at {
         match rest_compared(table, s.at - 1, v, lead, es) {
             Ordering::Less => s = seek(table, h, f, s.at),

@@ -113,22 +113,20 @@ pub fn slot_for(len: usize, last: NodeId, id: NodeId) -> usize
 
 // "Neighbouring edges with equal children are merged": each edge goes into the slot of the last one where their children agree, else into
 // the next. In place: the slots below `len` are merged already, those from j on are as they were.
-pub fn merged(es: Edges) -> Edges
-    requires { Building es }
-    ensures { (Building result) × (pieces_of result ≡ merge (pieces_of es)) }
+pub fn merge_neighbours(es: &mut Edges)
+    requires { Building es.old }
+    ensures { (Building es.new) × (pieces_of es.new ≡ merge (pieces_of es.old)) }
 {
-    let mut out = es;
     let mut last = NodeId::FALSE;
     let mut len = 0;
-    for j in 0..out.len {
-        let e = out.list[j];
+    for j in 0..es.len {
+        let e = es.list[j];
         let n = slot_for(len, last, e.child);
-        out.list[n] = Edge::new(e.cut, e.child);
+        es.list[n] = Edge::new(e.cut, e.child);
         last = e.child;
         len = n + 1;
     }
-    out.len = len;
-    out
+    es.len = len;
 }
 
 // Whether edge j of `count` has a cut in the table: the last edge has none, and no edge of a boolean node.

@@ -13,8 +13,8 @@ ghost use Rattle.making.specs.Storing.{EdgesPut, RecordPut};
 ghost use Rattle.making.specs.Outcome.{Buildable, Mergeable, Added, create_pair};
 ghost use Rattle.making.specs.Working.{Sound, stored, table_in, SameSlices, MakesNode};
 
-use super::chain::{Spot, find, front_of, seek, splice};
-use super::edges::{Edge, EdgeList, Edges, TwoEdges, hash_edges, merged, stored_cut};
+use super::chain::{Spot, find, splice};
+use super::edges::{Edge, EdgeList, Edges, TwoEdges, hash_edges, merge_neighbours, stored_cut};
 use super::room::NoRoom;
 use super::used::UsedTable;
 use ids::NodeId;
@@ -143,25 +143,31 @@ pub fn extend<E: EdgeList>(
     Ok(known(table.used.nodes, lead))
 }
 
-// The id of variable v over two edges whose children differ, as thresholds and switches have them: what `settle` does, without an array of
-// edges. Two edges are all in the front, so the node is hashed, looked for and written from them alone.
-fn settle_two(table: &mut UsedTable, v: usize, es: &TwoEdges) -> Result<NodeId, NoRoom>
-    requires { (Sound table.old) × (Buildable (table_in table.old) v (two_of es.now.first es.now.second)) }
-    ensures makes { MakesNode table.old (settled (table_in table.old) v (pieces_of (two_of es.now.first es.now.second))) result table.new }
+// "Find it or add it as the next number": the id of variable v over merged edges, of which there are two or more.
+fn find_or_add<E: EdgeList>(table: &mut UsedTable, v: usize, es: &E) -> Result<NodeId, NoRoom>
+    requires { (Sound table.old) × (Buildable (table_in table.old) v (E.edges es.now)) × (2 ≤ (E.edges es.now).len) }
+    ensures makes { MakesNode table.old (settled (table_in table.old) v (pieces_of (E.edges es.now))) result table.new }
     ensures same { SameSlices table.old table.new }
 {
-    let lead = es.first.child;
+    // "Flip if the first child is complemented", since a node and its flipped twin would be two ids for one condition. No copy is made:
+    // the node is hashed, compared and stored with each child seen under the sign of the first, and its id gets that sign.
+    let lead = es.edge(0).child;
     let h = hash_edges(v, lead, es);
-    let s = seek(
-        &table.read(),
-        h,
-        front_of(v, lead, 2, es.first, es.second),
-        0,
-    );
+    // Looked for before room is asked for: a full table still answers with the nodes that it has (C16).
+    let s = find(&table.read(), v, lead, es, h);
     if 0 < s.at {
         return Ok(known(s.at, lead));
     }
     extend(table, v, lead, es, h, s)
+}
+
+// The same for an array of edges. Its own function, so that the array, which is copied to be lent, is copied for no node of two edges.
+fn find_or_add_array(table: &mut UsedTable, v: usize, es: Edges) -> Result<NodeId, NoRoom>
+    requires { (Sound table.old) × (Buildable (table_in table.old) v es) × (2 ≤ es.len) }
+    ensures makes { MakesNode table.old (settled (table_in table.old) v (pieces_of es)) result table.new }
+    ensures same { SameSlices table.old table.new }
+{
+    find_or_add(table, v, &es)
 }
 
 // The id of variable v over merged edges: "drop the node if all children agree, else find it or add it as the next number". Where there is
@@ -173,13 +179,12 @@ pub fn settle(table: &mut UsedTable, v: usize, es: Edges) -> Result<NodeId, NoRo
 {
     // Of merged edges all children agree exactly when one edge is left: the child stands for the node.
     let first = es.list[0];
-    let lead = first.child;
     if es.len == 1 {
-        return Ok(lead);
+        return Ok(first.child);
     }
-    // Most nodes have two edges.
+    // Most nodes have two edges, as thresholds and switches have them. These are made from the two alone.
     if es.len == 2 {
-        return settle_two(
+        return find_or_add(
             table,
             v,
             &TwoEdges {
@@ -188,25 +193,18 @@ pub fn settle(table: &mut UsedTable, v: usize, es: Edges) -> Result<NodeId, NoRo
             },
         );
     }
-    // "Flip if the first child is complemented", since a node and its flipped twin would be two ids for one condition. No copy is made:
-    // the node is hashed, compared and stored with each child seen under the sign of the first, and its id gets that sign.
-    let h = hash_edges(v, lead, &es);
-    // Looked for before room is asked for: a full table still answers with the nodes that it has (C16).
-    let s = find(&table.read(), v, lead, &es, h);
-    if 0 < s.at {
-        return Ok(known(s.at, lead));
-    }
-    extend(table, v, lead, &es, h, s)
+    find_or_add_array(table, v, es)
 }
 
 // Node making, from edges whose neighbours may still agree: "neighbouring edges with equal children are merged first". `create_node` of the
 // source, which does not merge, and so gives equal conditions two ids (docs/DIFFERENCES.md).
-pub fn create_node(table: &mut UsedTable, v: usize, es: Edges) -> Result<NodeId, NoRoom>
+pub fn create_node(table: &mut UsedTable, v: usize, mut es: Edges) -> Result<NodeId, NoRoom>
     requires { (Sound table.old) × (Mergeable (table_in table.old) v es) }
     ensures makes { MakesNode table.old (create_node (table_in table.old) v (pieces_of es)) result table.new }
     ensures same { SameSlices table.old table.new }
 {
-    settle(table, v, merged(es))
+    merge_neighbours(&mut es);
+    settle(table, v, es)
 }
 
 // The same for a boolean variable, from its two children.
@@ -225,7 +223,7 @@ pub fn create_pair(
         return Ok(high);
     }
     // A boolean has two positions, 0 for yes and 1 for no, so the high edge ends before 1.
-    settle_two(
+    find_or_add(
         table,
         v,
         &TwoEdges {

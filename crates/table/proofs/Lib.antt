@@ -8,7 +8,6 @@ pub mod Scan
 pub mod Bridge
 pub mod Determined
 pub mod Once
-pub mod Zeroed
 pub mod Hearing
 pub mod Promises
 pub mod OneIndex

@@ -69,7 +69,8 @@ pub fn cut_position(z: i64) -> usize
     ensures { (result ≡ cut_position z) × (result < 8589934593) }
 {
     // The lowest place is the one place that is no cut, so its position, 0, is free to mean that there is none.
-    if !(LOWEST_CUT..=HIGHEST).contains(&z) {
+    // By two `<`, of which one comparison is made; `contains` is compiled to two.
+    if z < LOWEST_CUT || HIGHEST < z {
         return 0;
     }
     // Only now that it lies between the ends: for any other lent number the difference might overflow.

@@ -1,7 +1,7 @@
 use mathlib.Core.Path.{refl}
 use native.Mathlib.Omega.{arith}
 use Rattle.making.proofs.Merged.{merging_none, merging_next}
-use Rattle.making.proofs.edges.merged.Goals as goal
+use Rattle.making.proofs.edges.merge_neighbours.Goals as goal
 
 pub loop-j-init : goal.loop-j-init
 loop-j-init c = merging_none c.requires _
