@@ -57,18 +57,18 @@
  * nothing (spanwhistle_check, spanwhistle_evaluate, spanwhistle_is_disjoint) on the same table too.
  *
  * Calls that walk down a table call themselves, once for each variable on the way, and most of them with an array of 64 edges each time
- * (`and` and `or` at range variables alone). They need a deep stack. Enough in our deepest test were 84,856 bytes for `restrict`, 70,596
- * for `and` and `or`, 47,880 for `widen`, 46,328 for `narrow`, 25,576 for `is_disjoint`, 2,744 for a condition and 336 for the rest. The
+ * (`and` and `or` at range variables alone). They need a deep stack. Enough in our deepest test were 75,688 bytes for `restrict`, 50,728
+ * for `and` and `or`, 41,544 for `widen`, 41,112 for `narrow`, 21,496 for `is_disjoint`, 2,928 for a condition and 352 for the rest. The
  * test is examples/stack.c: conditions over all 64 variables, on x86-64 with this project's compiler. It is measured and not proved, and
  * another machine has other figures. SPANWHISTLE_STACK_JOIN and the like are no less than these. Conditions that
  * test fewer variables take less:
  *
  *     variables         2       4       8      16      32      64
- *     and, or       3,928   7,416  14,392  28,344  56,248  70,596
- *     restrict      4,504   7,096  12,280  22,648  43,384  84,856
- *     narrow        5,656   8,280  13,528  24,024  45,016  46,328
- *     widen         7,208   9,832  15,080  25,576  46,568  47,880
- *     is_disjoint   4,568   5,240   6,584   9,272  14,648  25,576
+ *     and, or       3,416   6,136  11,576  22,456  44,216  50,728
+ *     restrict      4,264   6,568  11,176  20,392  38,824  75,688
+ *     narrow        5,400   7,704  12,312  21,528  39,960  41,112
+ *     widen         5,832   8,136  12,744  21,960  40,392  41,544
+ *     is_disjoint   4,632   5,176   6,264   8,440  12,792  21,496
  *
  * where all variables but one are ranges, as far as there are: a boolean takes `and` and `or` less, and narrow and widen go no deeper than
  * their variable. SPANWHISTLE_STACK_JOIN_OF(V) and the like are enough for V variables in the same test. What interrupts need on the same stack
