@@ -200,7 +200,7 @@ uint32_t spanwhistle_fresh(SPANWHISTLE_LENDS);
 /*
  * Tests the table, as the calls below do at their start: ask it of a table read from flash before the first delivery.
  * Returns 0 exactly when the table is sound, or 1 or 2. Writes the number of used nodes and edges beside 0, and 0 and 0 beside a refusal.
- * Its work goes with the lengths and the edges, whatever was lent: a table of 4,096 nodes and 16,384 edges takes 55 to 110 microseconds on
+ * Its work goes with the lengths and the edges, whatever was lent: a table of 4,096 nodes and 16,384 edges takes 55 to 130 microseconds on
  * our Xeons, and no table that we built took three times as long (docs/TESTING.md).
  */
 SPANWHISTLE_MUST_USE

@@ -44,7 +44,7 @@ impl Spot {
     }
 }
 
-// What a node is ordered by after its hash, up to its second edge, as it is stored. Of a boolean node that is all.
+// What a node is ordered by after its hash, up to its second edge, as it is stored. Of a node of two edges that is all.
 // Numbers as they are stored, and no two edges: the definition `front_of` lists them in this order.
 #[derive(Clone, Copy)]
 pub struct Front {
@@ -174,7 +174,8 @@ pub fn find<E: EdgeList>(table: &Table, v: usize, lead: NodeId, es: &E, h: usize
 {
     let f = front_of(v, lead, es.count(), es.edge(0), es.edge(1));
     let mut s = seek(table, h, f, 0);
-    // A second turn is for nodes of one hash whose first edges agree as well. Where two edges are all, none is left to compare.
+    // A second turn is for nodes of one hash whose first two edges agree as well. Of a node of two edges `rest_compared` has none left to
+    // compare, and answers `Equal`.
     while 0 < s.at {
         match rest_compared(table, s.at - 1, v, lead, es) {
             Ordering::Less => s = seek(table, h, f, s.at),

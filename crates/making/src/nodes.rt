@@ -6,7 +6,7 @@ ghost use Rattle.diagram.specs.Sound.{Child};
 ghost use Rattle.algebra.specs.Making.{settle as settled, create_node};
 ghost use Rattle.std.specs.Prelude.{Decides};
 ghost use Rattle.table.specs.Layout.{most_nodes, most_edge_room, room};
-ghost use Rattle.making.specs.Building.{Building, child_in, cut_in, node_of, hash_in, two_of, pieces_of};
+ghost use Rattle.making.specs.Building.{Building, child_in, cut_in, node_of, hash_in, pieces_of};
 ghost use Rattle.making.specs.Growing.{NodeIn};
 ghost use Rattle.making.specs.Seeking.{Finds};
 ghost use Rattle.making.specs.Storing.{EdgesPut, RecordPut};
@@ -149,8 +149,8 @@ fn find_or_add<E: EdgeList>(table: &mut UsedTable, v: usize, es: &E) -> Result<N
     ensures makes { MakesNode table.old (settled (table_in table.old) v (pieces_of (E.edges es.now))) result table.new }
     ensures same { SameSlices table.old table.new }
 {
-    // "Flip if the first child is complemented", since a node and its flipped twin would be two ids for one condition. No copy is made:
-    // the node is hashed, compared and stored with each child seen under the sign of the first, and its id gets that sign.
+    // "Flip if the first child is complemented", since a node and its flipped twin would be two ids for one condition. No flipped copy is
+    // made: the node is hashed, compared and stored with each child seen under the sign of the first, and its id gets that sign.
     let lead = es.edge(0).child;
     let h = hash_edges(v, lead, es);
     // Looked for before room is asked for: a full table still answers with the nodes that it has (C16).
@@ -161,7 +161,8 @@ fn find_or_add<E: EdgeList>(table: &mut UsedTable, v: usize, es: &E) -> Result<N
     extend(table, v, lead, es, h, s)
 }
 
-// The same for an array of edges. Its own function, so that the array, which is copied to be lent, is copied for no node of two edges.
+// The same for an array. A function of its own: to lend the array copies it (1 KB), and in `settle` itself that would be done for nodes of
+// two edges too.
 fn find_or_add_array(table: &mut UsedTable, v: usize, es: Edges) -> Result<NodeId, NoRoom>
     requires { (Sound table.old) × (Buildable (table_in table.old) v es) × (2 ≤ es.len) }
     ensures makes { MakesNode table.old (settled (table_in table.old) v (pieces_of es)) result table.new }

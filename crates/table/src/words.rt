@@ -69,7 +69,7 @@ pub fn cut_position(z: i64) -> usize
     ensures { (result ≡ cut_position z) × (result < 8589934593) }
 {
     // The lowest place is the one place that is no cut, so its position, 0, is free to mean that there is none.
-    // By two `<`, of which one comparison is made; `contains` is compiled to two.
+    // Two `<`, which today's compiler joins to one comparison; of `contains` it makes two.
     if z < LOWEST_CUT || HIGHEST < z {
         return 0;
     }
