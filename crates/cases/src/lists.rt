@@ -7,7 +7,7 @@ use super::questions::Question::{
     Read, Restrict, Widen,
 };
 use super::questions::Value::{Count, Cut, Id, Yes};
-use super::questions::{A, B, C, Case, D, Question, Value, Variable, X};
+use super::questions::{A, B, C, Case, D, Variable, X};
 use ids::NodeId;
 use ranges::bounds::Bound::{Excludes, Includes, Open};
 use ranges::bounds::Comparison::{Equal, GreaterEqual, LessEqual, LessThan, NotEqual};

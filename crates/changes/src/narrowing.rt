@@ -1,5 +1,5 @@
 // Narrowing for one range variable. Document 01, step 8; `simplify_python_versions` of the source.
-ghost use Rattle.std.specs.Prelude.{◌≡◌, ◌≤◌, ◌<◌, length};
+ghost use Rattle.std.specs.Prelude.{◌≤◌, ◌<◌, length};
 ghost use Rattle.ids.specs.Id.{KnownTo};
 ghost use Rattle.ranges.specs.Line.{top};
 ghost use Rattle.diagram.specs.Table.{first_boolean};

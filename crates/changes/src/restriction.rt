@@ -1,5 +1,5 @@
 // Restriction of one boolean to a value. Document 01, step 7; `restrict` of the source, whose closure is the variable and the value.
-ghost use Rattle.std.specs.Prelude.{◌≡◌, ◌≤◌, ◌<◌, length};
+ghost use Rattle.std.specs.Prelude.{◌≤◌, ◌<◌, length};
 ghost use Rattle.ids.specs.Id.{KnownTo};
 ghost use Rattle.diagram.specs.Table.{first_boolean, variables};
 ghost use Rattle.algebra.specs.Changing.{restrict as restriction};

@@ -1,5 +1,5 @@
 // The pair walk and the edge merge, which call each other; the number of variables still ahead falls.
-ghost use Rattle.std.specs.Prelude.{◌≡◌, false, cond, not, ◌&&◌, ◌<◌, eqb};
+ghost use Rattle.std.specs.Prelude.{false, not, ◌&&◌, ◌<◌, eqb};
 ghost use Rattle.diagram.specs.Table.{first_boolean, is_range};
 ghost use Rattle.algebra.specs.Conjunction.{conj};
 ghost use Rattle.making.specs.Working.{table_in, SameSlices};

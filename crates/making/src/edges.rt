@@ -1,5 +1,5 @@
 // A node under construction: an array by value of 64 edge structs with a count.
-ghost use Rattle.std.specs.Prelude.{◌≡◌, cond, ◌&&◌, ℕ, ◌+◌, ◌-◌, ◌<◌, ◌≤◌, ltb, length, get_or};
+ghost use Rattle.std.specs.Prelude.{◌≡◌, cond, ◌&&◌, ℕ, ◌+◌, ◌-◌, ◌<◌, ltb, length, get_or};
 ghost use Rattle.ids.specs.Id.{sign};
 ghost use Rattle.diagram.specs.Table.{variables, is_range, most_edges};
 ghost use Rattle.algebra.specs.Overlay.{merge};

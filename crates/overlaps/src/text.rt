@@ -1,5 +1,5 @@
 // The text as lines, and a line as words. Both are parts of the text: nothing is copied.
-ghost use Rattle.std.specs.Prelude.{◌<◌, ◌≤◌, ◌⊎◌, length};
+ghost use Rattle.std.specs.Prelude.{◌<◌, ◌≤◌, length};
 ghost use Rattle.std.specs.Iterator.{at_most};
 
 use std::str;
