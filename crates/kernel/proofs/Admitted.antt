@@ -1,5 +1,5 @@
 -- What the proofs of the conditions' calls hand their facts to: what is found before any work, and each row. Assumes nothing.
-use mathlib.Core.Path.{◌≡◌, refl, sym, ap, subst}
+use mathlib.Core.Path.{◌≡◌, refl, sym, subst}
 use mathlib.Core.Bool.{Bool, true, false, cond}
 use mathlib.Core.List.{List, []}
 use Prim.Native.Nat.{ℕ}
@@ -9,10 +9,9 @@ use mir.Syntax.{w32}
 use mir.Val.{to_z, of_z, SFits}
 use mir.ValLaws.{to_z-of_z}
 use Rattle.ids.specs.Id.{FALSE}
-use Rattle.ranges.specs.declared.bounds.Bound.{Bound}
 use Rattle.ranges.specs.declared.bounds.Comparison.{Comparison}
 use Rattle.diagram.specs.Table.{Table}
-use Rattle.algebra.specs.Conditions.{from_range, comparison, from_bool}
+use Rattle.algebra.specs.Conditions.{comparison}
 use Rattle.std.specs.Prelude.{Decides}
 use Rattle.table.specs.Told.{done, wrong_variable, no_room, number_of, Allowed, Checks, checked_1, checked_2, checked_0, refused_last}
 use Rattle.table.proofs.Laws.{decided_true, decided_false}

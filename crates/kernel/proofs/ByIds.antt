@@ -10,7 +10,7 @@ use Rattle.ids.specs.Id.{FALSE}
 use Rattle.diagram.specs.Table.{Table}
 use Rattle.table.specs.Layout.{room, MemoLengths, Store}
 use Rattle.std.specs.Prelude.{Decides}
-use Rattle.table.specs.Told.{done, wrong_variable, no_room, number_of, Checks, refused_1, refused_3, refused_last}
+use Rattle.table.specs.Told.{done, wrong_variable, no_room, number_of, refused_1, refused_3, refused_last}
 use Rattle.table.proofs.Laws.{decided_true, decided_false}
 use Rattle.table.proofs.Hearing.{check_refuses}
 use Rattle.table.specs.declared.lent.Used.{Used}
@@ -23,13 +23,17 @@ use Rattle.kernel.specs.Makes.{Makes, made_no}
 use Rattle.std.specs.Prelude.{Result, Ok, Err, IsErrAnd}
 use Rattle.table.specs.declared.refusal.Refusal.{Refusal}
 use Rattle.kernel.proofs.Results.{refusal_not_done}
-use Rattle.kernel.specs.Admitting.{AdmitsIds, AdmitsIdsTo, ids_not_long, ids_not_lent, ids_not_known, ids_not_kind, ids_admitted}
+use Rattle.kernel.specs.Admitting.{Admits, not_lent, admitted, AdmitsTo, AdmitsIds, AdmitsIdsTo, ids_not_long, ids_not_lent, ids_not_known, ids_not_kind, ids_admitted}
 use Rattle.kernel.proofs.Handing.{outcome_told}
 
 -- the table is refused
-pub ids_refuse : {st : Store} {index : List ℕ} {n : ℕ} (x y : ℕ) (kind : Bool) → MemoLengths n (room st.nodes) → (e : Refusal) → Checks st index (number_of e) 0 0 → (r : Result Used Refusal) → IsErrAnd r (λ z. z ≡ e) → AdmitsIdsTo st index n x y kind r
-ids_refuse x y kind long e c (Ok u) q = absurd q
-ids_refuse {st} {index} x y kind long e c (Err z) q = (record { nodes = 0; edges = 0 }, ids_not_lent kind _ long (subst (λ (w : Refusal). Checks st index (number_of w) 0 0) (sym q) c) (refusal_not_done z))
+pub ids_refuse_table : {st : Store} {index : List ℕ} {n x y : ℕ} {kind : Bool} → MemoLengths n (room st.nodes) → {k : ℕ} {h : Used} → Admits st index true k h → (k ≡ done → ⊥) → AdmitsIds st index n x y kind k h
+ids_refuse_table {kind = kind} long (not_lent b h c f) q = ids_not_lent kind h long c f
+ids_refuse_table long (admitted h l) q = absurd (q refl)
+
+pub ids_refuse : {st : Store} {index : List ℕ} {n : ℕ} (x y : ℕ) (kind : Bool) → MemoLengths n (room st.nodes) → (e : Refusal) → AdmitsTo st index true (Err e) → (r : Result Used Refusal) → IsErrAnd r (λ z. z ≡ e) → AdmitsIdsTo st index n x y kind r
+ids_refuse x y kind long e a (Ok u) q = absurd q
+ids_refuse {st} {index} x y kind long e (h, a) (Err z) q = (h, ids_refuse_table long (subst (λ (w : Refusal). Admits st index true (number_of w) h) (sym q) a) (refusal_not_done z))
 
 module _ {st : Store} {index : List ℕ} {n x y : ℕ} {kind : Bool} (long : MemoLengths n (room st.nodes)) where
   -- it is lent, and the variable decides

@@ -1,8 +1,7 @@
 -- Answers of the code that are handed on by `?`, and what they are as the definitions have it. Assumes nothing.
-use mathlib.Core.Path.{◌≡◌, refl, sym, ◌∙◌, ap, subst}
-use Prim.Native.Nat.{ℕ}
+use mathlib.Core.Path.{◌≡◌, refl, ap}
 use native.Mathlib.Omega.{arith}
-use Rattle.std.specs.Prelude.{Bool, false, Result, Ok, Err, IsErrAnd, List}
+use Rattle.std.specs.Prelude.{Bool, false, Result, Ok, Err, IsErrAnd}
 use Rattle.ids.specs.Id.{FALSE}
 use Rattle.ids.specs.declared.NodeId.{NodeId}
 use Rattle.table.specs.declared.refusal.Refusal.{Refusal}

@@ -50,7 +50,7 @@ pub fn admit_ids(
         return Err(Refusal::WrongRoom);
     }
     // Not the kind yet: ids (3) come before it (4).
-    let used = check(table)?;
+    let used = admit(table, true)?;
     if !both_known(used.nodes, x, y) {
         return Err(Refusal::UnknownId);
     }
