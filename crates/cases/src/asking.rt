@@ -10,7 +10,6 @@ use kernel::joins_calls::{and, or};
 use std::io;
 use table::calls::{check, evaluate};
 use table::lent::{Table, TableMut};
-use table::limits::FIRST_BOOLEAN;
 use table::refusal::Refusal;
 
 // What every word of the memo is before each call: it is scratch, and never believed. Were it, its first word would say that one set of
@@ -66,7 +65,7 @@ fn ask(lent: &mut Lent, question: Question) -> Result<Value, Refusal> {
 
 // x at a place, with a true and all else 0.
 fn read(table: &Table, id: NodeId, place: i64) -> Result<bool, Refusal> {
-    let mut places = [0; FIRST_BOOLEAN];
+    let mut places = [0; 32];
     places[0] = place;
     evaluate(table, &places, ONLY_A, id)
 }

@@ -7,11 +7,10 @@ use super::questions::Question::{
     Read, Restrict, Widen,
 };
 use super::questions::Value::{Count, Cut, Id, Yes};
-use super::questions::{A, B, C, Case, D, Variable, X};
+use super::questions::{A, B, C, Case, D, FALSE, TRUE, Variable, X};
 use ids::NodeId;
 use ranges::bounds::Bound::{Excludes, Includes, Open};
 use ranges::bounds::Comparison::{Equal, GreaterEqual, LessEqual, LessThan, NotEqual};
-use ranges::places::HIGHEST;
 use table::refusal::Refusal::{
     BeyondPlaces, NoRoom, NotSound, UnknownId, WrongRoom, WrongVariable,
 };
@@ -33,7 +32,7 @@ pub const FIRST: [Case; 41] = [
     case!(Some(1), Compare(X, LessThan, 5), Ok(Id(NodeId(2)))),
     case!(Some(2), Compare(X, GreaterEqual, 5), Ok(Id(NodeId(3)))),
     case!(Some(3), Compare(X, LessEqual, 5), Ok(Id(NodeId(4)))),
-    case!(Some(4), And(NodeId(2), NodeId(3)), Ok(Id(NodeId::FALSE))),
+    case!(Some(4), And(NodeId(2), NodeId(3)), Ok(Id(FALSE))),
     case!(Some(5), And(NodeId(2), NodeId(4)), Ok(Id(NodeId(2)))),
     case!(Some(6), And(NodeId(3), NodeId(4)), Ok(Id(NodeId(7)))),
     case!(Some(7), Compare(X, Equal, 5), Ok(Id(NodeId(7)))),
@@ -55,17 +54,17 @@ pub const FIRST: [Case; 41] = [
     case!(
         Some(14),
         Narrow(NodeId(7), X, Includes(5), Includes(5)),
-        Ok(Id(NodeId::TRUE))
+        Ok(Id(TRUE))
     ),
     case!(
         Some(14),
         Narrow(NodeId(2), X, Includes(3), Includes(4)),
-        Ok(Id(NodeId::TRUE))
+        Ok(Id(TRUE))
     ),
     case!(
         Some(14),
         Narrow(NodeId(2), X, Includes(5), Open),
-        Ok(Id(NodeId::FALSE))
+        Ok(Id(FALSE))
     ),
     case!(
         Some(14),
@@ -74,13 +73,13 @@ pub const FIRST: [Case; 41] = [
     ),
     case!(
         Some(15),
-        Narrow(NodeId::TRUE, X, Includes(7), Includes(3)),
-        Ok(Id(NodeId::TRUE))
+        Narrow(TRUE, X, Includes(7), Includes(3)),
+        Ok(Id(TRUE))
     ),
     case!(
         Some(15),
         Narrow(NodeId(2), X, Includes(7), Includes(3)),
-        Ok(Id(NodeId::FALSE))
+        Ok(Id(FALSE))
     ),
     case!(
         Some(15),
@@ -89,35 +88,35 @@ pub const FIRST: [Case; 41] = [
     ),
     case!(
         Some(15),
-        Widen(NodeId::TRUE, X, Includes(7), Includes(3)),
-        Ok(Id(NodeId::FALSE))
+        Widen(TRUE, X, Includes(7), Includes(3)),
+        Ok(Id(FALSE))
     ),
     case!(
         Some(15),
         Widen(NodeId(2), X, Includes(7), Includes(3)),
-        Ok(Id(NodeId::FALSE))
+        Ok(Id(FALSE))
     ),
     case!(
         Some(15),
         Widen(NodeId(8), X, Includes(7), Includes(3)),
-        Ok(Id(NodeId::FALSE))
+        Ok(Id(FALSE))
     ),
     case!(
         None,
         Narrow(NodeId(3), X, Includes(7), Includes(3)),
-        Ok(Id(NodeId::FALSE))
+        Ok(Id(FALSE))
     ),
     case!(None, Narrow(NodeId(10), X, Open, Open), Ok(Id(NodeId(10)))),
     case!(None, Widen(NodeId(11), X, Open, Open), Ok(Id(NodeId(11)))),
     case!(
         None,
-        Widen(NodeId::FALSE, X, Includes(3), Includes(7)),
-        Ok(Id(NodeId::FALSE))
+        Widen(FALSE, X, Includes(3), Includes(7)),
+        Ok(Id(FALSE))
     ),
     case!(None, Restrict(NodeId(10), A, true), Ok(Id(NodeId(2)))),
-    case!(None, Restrict(NodeId(10), A, false), Ok(Id(NodeId::FALSE))),
+    case!(None, Restrict(NodeId(10), A, false), Ok(Id(FALSE))),
     case!(None, Restrict(NodeId(11), A, true), Ok(Id(NodeId(3)))),
-    case!(None, Restrict(NodeId(12), A, true), Ok(Id(NodeId::TRUE))),
+    case!(None, Restrict(NodeId(12), A, true), Ok(Id(TRUE))),
     case!(None, Restrict(NodeId(12), A, false), Ok(Id(NodeId(2)))),
     case!(None, Restrict(NodeId(10), B, true), Ok(Id(NodeId(10)))),
     case!(None, Restrict(NodeId(10), X, false), Ok(Id(NodeId(10)))),
@@ -267,7 +266,7 @@ pub const LAST: [Case; 4] = [
     case!(Some(16), Boolean(Variable(63)), Ok(Id(NodeId(2)))),
     case!(None, Compare(Variable(31), LessThan, 5), Ok(Id(NodeId(4)))),
     case!(Some(16), Compare(X, LessThan, 5), Ok(Id(NodeId(6)))),
-    case!(Some(16), Read(NodeId(7), HIGHEST), Ok(Yes(true))),
+    case!(Some(16), Read(NodeId(7), 4294967295), Ok(Yes(true))),
 ];
 
 // C16: what lies beyond the last variable and the last place.
@@ -275,14 +274,10 @@ pub const TOO_FAR: [Case; 12] = [
     case!(Some(16), Boolean(Variable(64)), Err(WrongVariable)),
     case!(None, Boolean(Variable(31)), Err(WrongVariable)),
     case!(None, Compare(A, LessThan, 5), Err(WrongVariable)),
-    case!(Some(16), Read(NodeId(7), HIGHEST + 1), Err(BeyondPlaces)),
-    case!(None, And(NodeId::TRUE, NodeId(8)), Err(UnknownId)),
-    case!(None, Disjoint(NodeId::FALSE, NodeId(8)), Err(UnknownId)),
-    case!(
-        None,
-        Restrict(NodeId::TRUE, Variable(64), true),
-        Err(WrongVariable)
-    ),
+    case!(Some(16), Read(NodeId(7), 4294967296), Err(BeyondPlaces)),
+    case!(None, And(TRUE, NodeId(8)), Err(UnknownId)),
+    case!(None, Disjoint(FALSE, NodeId(8)), Err(UnknownId)),
+    case!(None, Restrict(TRUE, Variable(64), true), Err(WrongVariable)),
     case!(
         None,
         Restrict(NodeId(8), Variable(64), true),
@@ -290,7 +285,7 @@ pub const TOO_FAR: [Case; 12] = [
     ),
     case!(
         None,
-        Narrow(NodeId::TRUE, Variable(40), Includes(3), Includes(7)),
+        Narrow(TRUE, Variable(40), Includes(3), Includes(7)),
         Err(WrongVariable)
     ),
     case!(None, Narrow(NodeId(2), A, Open, Open), Err(WrongVariable)),
@@ -301,7 +296,7 @@ pub const TOO_FAR: [Case; 12] = [
     ),
     case!(
         None,
-        Widen(NodeId::FALSE, Variable(63), Includes(7), Includes(3)),
+        Widen(FALSE, Variable(63), Includes(7), Includes(3)),
         Err(WrongVariable)
     ),
 ];
@@ -311,20 +306,20 @@ pub const SOME: [Case; 1] = [case!(None, Boolean(A), Ok(Id(NodeId(2))))];
 
 // Refusals that go before a shortcut: in a table that is not sound.
 pub const DAMAGED: [Case; 5] = [
-    case!(None, And(NodeId::TRUE, NodeId(2)), Err(NotSound)),
-    case!(None, And(NodeId::TRUE, NodeId(8)), Err(NotSound)),
+    case!(None, And(TRUE, NodeId(2)), Err(NotSound)),
+    case!(None, And(TRUE, NodeId(8)), Err(NotSound)),
     case!(None, Boolean(Variable(64)), Err(NotSound)),
     case!(None, Restrict(NodeId(8), Variable(64), true), Err(NotSound)),
-    case!(None, Widen(NodeId::TRUE, X, Open, Open), Err(NotSound)),
+    case!(None, Widen(TRUE, X, Open, Open), Err(NotSound)),
 ];
 
 // Refusals that go before a shortcut: with a memo of a length that is refused.
 pub const OTHER_MEMO: [Case; 7] = [
     case!(None, Boolean(A), Ok(Id(NodeId(2)))),
-    case!(None, And(NodeId::TRUE, NodeId(2)), Err(WrongRoom)),
-    case!(None, And(NodeId::TRUE, NodeId(8)), Err(WrongRoom)),
-    case!(None, Or(NodeId(2), NodeId::FALSE), Err(WrongRoom)),
+    case!(None, And(TRUE, NodeId(2)), Err(WrongRoom)),
+    case!(None, And(TRUE, NodeId(8)), Err(WrongRoom)),
+    case!(None, Or(NodeId(2), FALSE), Err(WrongRoom)),
     case!(None, Restrict(NodeId(2), X, true), Err(WrongRoom)),
-    case!(None, Narrow(NodeId::TRUE, X, Open, Open), Err(WrongRoom)),
-    case!(None, Widen(NodeId::TRUE, X, Open, Open), Err(WrongRoom)),
+    case!(None, Narrow(TRUE, X, Open, Open), Err(WrongRoom)),
+    case!(None, Widen(TRUE, X, Open, Open), Err(WrongRoom)),
 ];

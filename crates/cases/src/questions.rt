@@ -4,6 +4,11 @@ use ranges::bounds::{Bound, Comparison};
 use std::fmt;
 use table::refusal::Refusal;
 
+// The terminals, by the document's numbers and not by the kernel's names: what is expected stands in this program.
+pub const TRUE: NodeId = NodeId(0);
+
+pub const FALSE: NodeId = NodeId(1);
+
 #[derive(Clone, Copy, PartialEq, Eq)]
 pub struct Variable(pub u32);
 
@@ -57,7 +62,7 @@ impl Question {
     pub fn refused(self) -> Value {
         match self {
             Question::Disjoint(..) | Question::Read(..) => Value::Yes(false),
-            _ => Value::Id(NodeId::FALSE),
+            _ => Value::Id(FALSE),
         }
     }
 }
@@ -86,8 +91,8 @@ struct Written(NodeId);
 impl fmt::Display for Written {
     fn fmt<W: fmt::Write>(&self, f: &mut fmt::Formatter<W>) -> fmt::Result {
         match self.0 {
-            NodeId::TRUE => write!(f, "TRUE"),
-            NodeId::FALSE => write!(f, "FALSE"),
+            TRUE => write!(f, "TRUE"),
+            FALSE => write!(f, "FALSE"),
             NodeId(number) => write!(f, "{number}"),
         }
     }

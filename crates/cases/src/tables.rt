@@ -9,7 +9,6 @@ use super::records::show_nodes;
 use std::io;
 use table::calls::fresh;
 use table::lent::TableMut;
-use table::limits::RECORD_WORDS;
 
 // The words of a table: R of node records, E of edges, R of the index. (The program `damage` has such a type too. A crate of four arrays that
 // only two programs import would be no plainer.)
@@ -35,7 +34,7 @@ impl<const R: usize, const E: usize> Words<R, E> {
     fn lend(&mut self, records: usize) -> TableMut<'_>
         requires { records * 4 ≤ R }
     {
-        let words = records * RECORD_WORDS;
+        let words = records * 4;
         TableMut {
             nodes: &mut self.nodes[..words],
             children: &mut self.children,

@@ -1,6 +1,6 @@
 // The index of one record or two, from docs/LAYOUT.md and whatever the records hold. With the index right again, a changed word is refused by
 // the rule that it breaks, or not at all; the hash would else refuse nearly every one.
-use ranges::places::LOWEST;
+use super::tables::LOWEST;
 use std::iter::{Skip, Take, Zip};
 use std::slice::Iter;
 

@@ -4,7 +4,6 @@ use super::told::number_of;
 use std::io;
 use table::calls::check;
 use table::lent::Table;
-use table::limits::RECORD_WORDS;
 
 // The lengths of nodes, children, cuts and index.
 pub type Lengths = [usize; 4];
@@ -86,7 +85,7 @@ pub fn show_lengths(rt: &impl Print) -> io::Result<()> {
     let empty = Words::<16388, 16385>::full_of(0);
     for (records, edges) in EMPTY_ROOMS {
         print!(rt; "empty {records} {edges} ")?;
-        let words = records * RECORD_WORDS;
+        let words = records * 4;
         show_front(rt, &empty.read(), [words, edges, edges, words])?;
     }
     Ok(())

@@ -1,8 +1,7 @@
 // What readings of the sound table tell, and when a reading is refused.
-use super::tables::SOUND;
+use super::tables::{HIGHEST, LOWEST, SOUND};
 use super::told::{number_of, yes_or_no};
 use ids::NodeId;
-use ranges::places::{HIGHEST, LOWEST};
 use std::io;
 use table::calls::evaluate;
 use table::lent::Table;
@@ -30,7 +29,7 @@ const READINGS: [(&str, u32, usize, i64, NodeId); 21] = [
     ("highest i64", 0, 32, i64::MAX, NodeId(4)),
     ("lowest i64", 0, 32, i64::MIN, NodeId(4)),
     // More than one reason to refuse: the lowest number is told.
-    ("terminal, bad place", 0, 32, HIGHEST + 1, NodeId::TRUE),
+    ("terminal, bad place", 0, 32, HIGHEST + 1, NodeId(0)),
     ("damaged", 1, 32, 0, NodeId(4)),
     ("damaged, 31 places", 1, 31, 0, NodeId(4)),
     ("damaged, id 8", 1, 32, 0, NodeId(8)),

@@ -1,6 +1,11 @@
 // The words of a table, and the sound tables that are damaged.
 use table::lent::Table;
 
+// The end places, by the document's numbers and not by the kernel's names: what is lent and expected stands in this program.
+pub const LOWEST: i64 = -4294967297;
+
+pub const HIGHEST: i64 = 4294967295;
+
 // R words of node records, E of edges, R of the index.
 #[derive(Clone, Copy)]
 pub struct Words<const R: usize, const E: usize> {

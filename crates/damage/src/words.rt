@@ -1,9 +1,8 @@
 // Every word of five sound tables, set to each of sixteen values and put back. Of the four small tables the index is put right each time that a
 // word of a record or of an edge is changed. Then nodes of one hash, in both orders.
 use super::laid::{Record, Records};
-use super::tables::{BOOLEAN, PARENT, RANGE, SOUND, TWINS, Words};
+use super::tables::{BOOLEAN, HIGHEST, LOWEST, PARENT, RANGE, SOUND, TWINS, Words};
 use super::told::{Checked, number_of};
-use ranges::places::{HIGHEST, LOWEST};
 use std::{fmt, io, mem};
 use table::calls::check;
 use table::lent::{Table, Used};
