@@ -39,13 +39,10 @@ impl From<u8> for Kind {
 }
 
 impl Kind {
-    // Whether a word that starts with a byte of this kind goes on with one of that kind. 1.5 is one word, so that it is refused as the number
-    // that was meant; so is a name with letters outside ASCII.
-    fn goes_on_with(self, next: Kind) -> bool {
-        match self {
-            Kind::Name | Kind::Far => matches!(next, Kind::Name | Kind::Point | Kind::Far),
-            _ => next == self,
-        }
+    // Whether a word that starts as a name or a number does, or outside ASCII, goes on with a byte of this kind. 1.5 is one word, so that it is
+    // refused as the number that was meant; so is a name with letters outside ASCII.
+    fn goes_on_name(self) -> bool {
+        matches!(self, Kind::Name | Kind::Point | Kind::Far)
     }
 }
 
@@ -111,7 +108,11 @@ impl<'a> Iterator for Words<'a> {
         if matches!(kind, Kind::Hash | Kind::Newline) {
             return None;
         }
-        self.rest = behind(tail, |b| kind.goes_on_with(Kind::from(b)));
+        // The kind of the first byte is looked at once, and not again beside each byte.
+        self.rest = match kind {
+            Kind::Name | Kind::Far => behind(tail, |b| Kind::from(b).goes_on_name()),
+            _ => behind(tail, |b| Kind::from(b) == kind),
+        };
         let n = from.len() - self.rest.len();
         Some(Word {
             bytes: &from[..n],
