@@ -1,7 +1,7 @@
 /*
  * Spanwhistle: compares the conditions of correction rules exactly. This header is for C99 and C++; link target/staticlib/libspanwhistle.a,
  * which `tools/build spanwhistle` makes, or `tools/install` with a pkg-config file. The archive needs memcpy and memset and nothing else. It
- * has 36 KB of code and constants, if all calls are linked, and no data (36,781, 0 and 0 bytes of text, data and bss by `size`, x86-64).
+ * has 27 KB of code and constants, if all calls are linked, and no data (26,961, 0 and 0 bytes of text, data and bss by `size`, x86-64).
  *
  * WHAT A TABLE IS
  *
@@ -57,17 +57,17 @@
  * nothing (spanwhistle_check, spanwhistle_evaluate, spanwhistle_is_disjoint) on the same table too.
  *
  * Calls that walk down a table call themselves, once for each variable on the way, and most of them with an array of 64 edges each time
- * (`and` and `or` at range variables alone). They need a deep stack. Enough in our deepest test were 75,688 bytes for `restrict`, 50,728
- * for `and` and `or`, 41,544 for `widen`, 41,112 for `narrow`, 21,496 for `is_disjoint`, 2,928 for a condition and 352 for the rest. The
+ * (`and` and `or` at range variables alone). They need a deep stack. Enough in our deepest test were 75,704 bytes for `restrict`, 50,728
+ * for `and` and `or`, 41,576 for `widen`, 41,144 for `narrow`, 21,496 for `is_disjoint`, 2,928 for a condition and 352 for the rest. The
  * test is examples/stack.c: conditions over all 64 variables, on x86-64 with this project's compiler. It is measured and not proved, and
  * another machine has other figures. SPANWHISTLE_STACK_JOIN and the like are no less than these. Conditions that
  * test fewer variables take less:
  *
  *     variables         2       4       8      16      32      64
- *     and, or       3,416   6,136  11,576  22,456  44,216  50,728
- *     restrict      4,264   6,568  11,176  20,392  38,824  75,688
- *     narrow        5,400   7,704  12,312  21,528  39,960  41,112
- *     widen         5,832   8,136  12,744  21,960  40,392  41,544
+ *     and, or       3,432   6,152  11,592  22,472  44,232  50,728
+ *     restrict      4,280   6,584  11,192  20,408  38,840  75,704
+ *     narrow        5,432   7,736  12,344  21,560  39,992  41,144
+ *     widen         5,864   8,168  12,776  21,992  40,424  41,576
  *     is_disjoint   4,632   5,176   6,264   8,440  12,792  21,496
  *
  * where all variables but one are ranges, as far as there are: a boolean takes `and` and `or` less, and narrow and widen go no deeper than

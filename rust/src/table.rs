@@ -19,7 +19,7 @@ use core::ops::RangeBounds;
 /// scratch, whatever it holds: words of 64 bits, whole sets of eight, from one set to one a node of the room
 /// ([`Room::memo_words`](crate::Room::memo_words)). It is all zero after a call that was done or found no room, and no answer goes by its length.
 ///
-/// Calls that walk down a table need a deep stack, `restrict` up to 75,688 bytes in our deepest test: include/spanwhistle.h has the
+/// Calls that walk down a table need a deep stack, `restrict` up to 75,704 bytes in our deepest test: include/spanwhistle.h has the
 /// figures, by the number of variables, and what they are worth.
 ///
 /// ```
