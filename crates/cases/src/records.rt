@@ -2,11 +2,10 @@
 use ids::NodeId;
 use std::io;
 use table::lent::Table;
-use table::limits::RECORD_WORDS;
 
 // The record of the node that an id names: its variable, its number of edges, the number of the first of them, a spare.
-pub fn record<'a>(table: &Table<'a>, id: NodeId) -> Option<&'a [u32; RECORD_WORDS]> {
-    let (records, _) = table.nodes.as_chunks::<RECORD_WORDS>();
+pub fn record<'a>(table: &Table<'a>, id: NodeId) -> Option<&'a [u32; 4]> {
+    let (records, _) = table.nodes.as_chunks::<4>();
     // Half an id is one more than its node's number.
     let node = (id.0 / 2).checked_sub(1)?;
     records.get(node as usize)
@@ -14,7 +13,7 @@ pub fn record<'a>(table: &Table<'a>, id: NodeId) -> Option<&'a [u32; RECORD_WORD
 
 // The first `used` nodes: the four words of each, the children of its edges, and their cuts.
 pub fn show_nodes(rt: &impl Print, table: &Table, used: usize) -> io::Result<()> {
-    let (records, _) = table.nodes.as_chunks::<RECORD_WORDS>();
+    let (records, _) = table.nodes.as_chunks::<4>();
     for (n, record) in records.iter().take(used).enumerate() {
         print!(rt; "    node {n}:")?;
         for word in record {
